@@ -1,0 +1,30 @@
+-- THE TABLE: document 01's rows (A) to (K) and the rows beyond them hold, by computation from the rules. Assumes nothing.
+use mathlib.Core.Path.{refl}
+use mathlib.Core.List.{_++_}
+use Rattle.rules.specs.Choice.{below, equal, lower, higher}
+use Rattle.rules.specs.Bytes.{number, bytesOf, packed, filled}
+use Rattle.rules.specs.Records.{modelOf, inputOf, policyOf, listedOf, modelBytes, inputBytes, policyInBytes}
+use Rattle.rules.specs.Numbers.{lengthFaults, roomFaults}
+use Rattle.rules.specs.Gates.{gateOf, detailOf}
+use Rattle.rules.specs.Price.{billed, costOf, scaledPrice}
+use Rattle.rules.specs.Utility.{shareOf, qualityTermOf, riskTermOf, latencyTermOf, exactUtilityOf, utilityOf}
+use Rattle.rules.specs.Verdict.{pricedOf, verdictOf}
+use Rattle.rules.specs.Rank.{better, ranking}
+use Rattle.rules.specs.Count.{gateReason, countedFor, countsFrom, countsOf, heavier, dominantOf}
+use Rattle.rules.specs.Decide.{stoppedBy, rejection, actionOf, chosen, decidedOf, decisionOf, traceOf, requestFaults, prescribeTracedOf, firstListed, requestCheck, prescribeOf, prescribeCheckedOf, prescribeTracedCheckedOf, findOf, utilityIn, utilityForModelOf, readingFaults, readingOf, recordOf}
+use Rattle.rules.specs.Explain.{explanationRecord, explained, explanationOf, explainFaults, explainOf, explainList}
+use Rattle.rules.specs.Halving.{halveIn, searchOf, searchAfterFarEnd}
+use Rattle.rules.specs.Levers.{leverAt, selects, varied, decisionAt, wins, boundaryOf}
+use Rattle.rules.specs.Win.{winLevers, winSearch, winFor, winIn, whatWouldWinOf}
+use Rattle.rules.specs.Margin.{marginLevers, marginFor, marginIn, decisionMarginOf}
+use Rattle.rules.proofs.Rows.{All}
+use Rattle.rules.proofs.Table.{rows}
+use Rattle.rules.proofs.Vectors.{byteRows, gateRows, reasonRows, rankRows, refusalRows, boundaryRows}
+
+table : All rows
+unfolding below equal lower higher number bytesOf packed filled modelOf inputOf policyOf listedOf lengthFaults roomFaults gateOf detailOf billed costOf scaledPrice shareOf qualityTermOf riskTermOf latencyTermOf exactUtilityOf utilityOf pricedOf verdictOf better ranking gateReason countedFor countsFrom countsOf heavier dominantOf stoppedBy rejection actionOf chosen decidedOf decisionOf traceOf requestFaults prescribeTracedOf firstListed explanationRecord explained explanationOf explainFaults explainOf explainList halveIn searchOf searchAfterFarEnd leverAt selects varied decisionAt wins boundaryOf winLevers winSearch winFor winIn whatWouldWinOf marginLevers marginFor marginIn decisionMarginOf modelBytes inputBytes policyInBytes requestCheck prescribeOf prescribeCheckedOf prescribeTracedCheckedOf findOf utilityIn utilityForModelOf readingFaults readingOf recordOf
+table = (refl, (refl, (refl, (refl, (refl, (refl, (refl, (refl, (refl, (refl, (refl, (refl, (refl, tt)))))))))))))
+
+vectors : All (byteRows ++ gateRows ++ reasonRows ++ rankRows ++ refusalRows ++ boundaryRows)
+unfolding below equal lower higher number bytesOf packed filled modelOf inputOf policyOf listedOf lengthFaults roomFaults gateOf detailOf billed costOf scaledPrice shareOf qualityTermOf riskTermOf latencyTermOf exactUtilityOf utilityOf pricedOf verdictOf better ranking gateReason countedFor countsFrom countsOf heavier dominantOf stoppedBy rejection actionOf chosen decidedOf decisionOf traceOf requestFaults prescribeTracedOf firstListed explanationRecord explained explanationOf explainFaults explainOf explainList halveIn searchOf searchAfterFarEnd leverAt selects varied decisionAt wins boundaryOf winLevers winSearch winFor winIn whatWouldWinOf marginLevers marginFor marginIn decisionMarginOf modelBytes inputBytes policyInBytes requestCheck prescribeOf prescribeCheckedOf prescribeTracedCheckedOf findOf utilityIn utilityForModelOf readingFaults readingOf recordOf
+vectors = (refl, (refl, (refl, (refl, (refl, (refl, (refl, (refl, (refl, (refl, (refl, (refl, (refl, (refl, (refl, (refl, (refl, (refl, (refl, (refl, (refl, (refl, (refl, (refl, (refl, (refl, (refl, (refl, (refl, (refl, (refl, (refl, (refl, (refl, (refl, (refl, (refl, (refl, (refl, (refl, (refl, (refl, (refl, (refl, (refl, (refl, (refl, (refl, (refl, (refl, (refl, (refl, (refl, (refl, (refl, (refl, (refl, (refl, (refl, (refl, (refl, (refl, (refl, (refl, tt))))))))))))))))))))))))))))))))))))))))))))))))))))))))))))))))

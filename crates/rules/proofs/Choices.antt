@@ -1,0 +1,53 @@
+-- The ways of a choice: what decides it, as plain orders and equations. Assumes nothing.
+use Prim.Native.Nat.{ℕ, _<_, _≤_}
+use mathlib.Core.Path.{_≡_, refl, _∙_}
+use mathlib.Core.Bool.{Bool, true, false}
+use native.Mathlib.Omega.{arith}
+use borrow.Author.Tests.{lt-ltb, le-ltb, eq-eqb, ne-eqb}
+use lib.Dec.{ltb, eqb}
+use lib.IntN.{ℤ}
+use lib.Signed.{ltZ}
+use Rattle.rules.specs.Choice.{below, equal, firstly, lower, higher}
+
+module _ {A : Type 0} (a b : ℕ) (x y : A) where
+  pub below-yes : a < b → below a b x y ≡ x
+  unfolding below
+  below-yes h = rw (lt-ltb a b h)
+
+  pub below-no : b ≤ a → below a b x y ≡ y
+  unfolding below
+  below-no h = rw (le-ltb a b h)
+
+  pub equal-yes : a ≡ b → equal a b x y ≡ x
+  unfolding equal
+  equal-yes h = rw (eq-eqb a b h)
+
+  pub equal-no : (a ≡ b → ⊥) → equal a b x y ≡ y
+  unfolding equal
+  equal-no h = rw (ne-eqb a b h)
+
+module _ (a b : ℕ) (rest : Bool) where
+  pub lower-yes : a < b → lower a b rest ≡ true
+  unfolding lower
+  lower-yes h = rw (lt-ltb a b h)
+
+  pub lower-no : b < a → lower a b rest ≡ false
+  unfolding lower
+  lower-no h = rw (le-ltb a b (omega arith), lt-ltb b a h)
+
+  pub lower-level : a ≡ b → lower a b rest ≡ rest
+  unfolding lower
+  lower-level e = rw (le-ltb a b (omega arith), le-ltb b a (omega arith))
+
+module _ (a b : ℤ) (rest : Bool) where
+  pub higher-yes : ltZ b a ≡ true → higher a b rest ≡ true
+  unfolding higher
+  higher-yes p = rw p
+
+  pub higher-no : ltZ b a ≡ false → ltZ a b ≡ true → higher a b rest ≡ false
+  unfolding higher
+  higher-no p q = rw (p, q)
+
+  pub higher-level : ltZ b a ≡ false → ltZ a b ≡ false → higher a b rest ≡ rest
+  unfolding higher
+  higher-level p q = rw (p, q)

@@ -1,0 +1,106 @@
+-- Document 01's example in literal bytes, and short names for the answers that its rows tell. Assumes nothing.
+use Prim.Native.Nat.{ℕ, _+_}
+use mathlib.Core.Bool.{Bool, true, false}
+use mathlib.Core.List.{List, [], _∷_, _++_}
+use mathlib.Core.Option.{Option, none, some}
+use lib.IntN.{ℤ}
+use lib.ListN.{length, take, drop, replicate}
+use Rattle.rules.specs.Numbers.{Decision, DecisionAndTrace, Entry, Boundary, noFault}
+use Rattle.rules.specs.declared.decision.RejectionHistogram.{RejectionHistogram}
+
+-- the two models, the policy and the request
+abbrev pub modelOne : List ℕ
+modelOne =
+    1 ∷ 0 ∷ 0 ∷ 0 ∷ 0 ∷ 0 ∷ 40 ∷ 35 ∷ 64 ∷ 31 ∷ 1 ∷ 100 ∷ 0 ∷ 0 ∷ 0 ∷ 3
+    ∷ 0 ∷ 0 ∷ 0 ∷ 0 ∷ 0 ∷ 0 ∷ 0 ∷ 1 ∷ 0 ∷ 0 ∷ 0 ∷ 0 ∷ 0 ∷ 0 ∷ 0 ∷ 192
+    ∷ 198 ∷ 45 ∷ 0 ∷ 0 ∷ 0 ∷ 0 ∷ 0 ∷ 192 ∷ 225 ∷ 228 ∷ 0 ∷ 0 ∷ 0 ∷ 0 ∷ 0 ∷ []
+
+abbrev pub modelTwo : List ℕ
+modelTwo =
+    2 ∷ 0 ∷ 0 ∷ 0 ∷ 1 ∷ 0 ∷ 64 ∷ 31 ∷ 64 ∷ 31 ∷ 1 ∷ 50 ∷ 0 ∷ 0 ∷ 0 ∷ 1
+    ∷ 0 ∷ 0 ∷ 0 ∷ 0 ∷ 0 ∷ 0 ∷ 0 ∷ 1 ∷ 0 ∷ 0 ∷ 0 ∷ 0 ∷ 0 ∷ 0 ∷ 0 ∷ 64
+    ∷ 66 ∷ 15 ∷ 0 ∷ 0 ∷ 0 ∷ 0 ∷ 0 ∷ 128 ∷ 132 ∷ 30 ∷ 0 ∷ 0 ∷ 0 ∷ 0 ∷ 0 ∷ []
+
+abbrev pub bank : List ℕ
+bank = modelOne ++ modelTwo
+
+abbrev pub policy : List ℕ
+policy =
+    7 ∷ 0 ∷ 0 ∷ 0 ∷ 0 ∷ 0 ∷ 0 ∷ 0 ∷ 3 ∷ 0 ∷ 0 ∷ 0 ∷ 0 ∷ 0 ∷ 0 ∷ 0
+    ∷ 40 ∷ 35 ∷ 208 ∷ 7 ∷ 16 ∷ 39 ∷ 10 ∷ 0 ∷ 0 ∷ 0 ∷ 0 ∷ 0 ∷ 0 ∷ 0 ∷ []
+
+abbrev pub request : List ℕ
+request =
+    42 ∷ 0 ∷ 0 ∷ 0 ∷ 0 ∷ 0 ∷ 0 ∷ 0 ∷ 1 ∷ 0 ∷ 0 ∷ 0 ∷ 100 ∷ 0 ∷ 0 ∷ 0
+    ∷ 100 ∷ 0 ∷ 0 ∷ 0 ∷ 16 ∷ 39 ∷ 0 ∷ 0 ∷ 0 ∷ 0 ∷ 0 ∷ 0 ∷ 136 ∷ 19 ∷ 0 ∷ 0
+    ∷ 0 ∷ 0 ∷ 0 ∷ 0 ∷ 232 ∷ 3 ∷ 16 ∷ 39 ∷ 136 ∷ 19 ∷ 0 ∷ 0 ∷ 0 ∷ 0 ∷ 1 ∷ 0
+    ∷ 0 ∷ 0 ∷ 0 ∷ 0 ∷ 0 ∷ 0 ∷ 255 ∷ 255 ∷ 255 ∷ 255 ∷ 255 ∷ 255 ∷ 255 ∷ 255 ∷ 0 ∷ 0
+    ∷ 0 ∷ 0 ∷ 0 ∷ 0 ∷ 0 ∷ 0 ∷ []
+
+-- bytes with others from an offset on
+abbrev pub with : ℕ → List ℕ → List ℕ → List ℕ
+with at bytes s = take at s ++ bytes ++ drop (at + length bytes) s
+
+-- a decision, in the order in which it is printed
+abbrev pub decision : ℕ → ℕ → ℕ → ℕ → ℕ → ℕ → ℤ → ℕ → ℤ → ℕ → ℕ → ℕ → ℕ → Decision
+decision a b c d e f g h i j k l m =
+    record {
+      sequence = a;
+      action = b;
+      reason = c;
+      model = d;
+      place = e;
+      cost = f;
+      utility = g;
+      other = h;
+      otherUtility = i;
+      evaluated = j;
+      eligible = k;
+      policyEpoch = l;
+      catalogEpoch = m;
+    }
+
+-- the nine counts, in theirs
+abbrev pub counts : ℕ → ℕ → ℕ → ℕ → ℕ → ℕ → ℕ → ℕ → ℕ → RejectionHistogram
+counts a b c d e f g h i =
+    record {
+      disabled = a;
+      quality = b;
+      «risk_ceiling» = c;
+      latency = d;
+      capability = e;
+      provider = f;
+      region = g;
+      budget = h;
+      utility = i;
+    }
+
+abbrev pub noCounts : RejectionHistogram
+noCounts = counts 0 0 0 0 0 0 0 0 0
+
+-- a decision with its counts, which are of as many models as it says
+abbrev pub counted : Decision → RejectionHistogram → DecisionAndTrace
+counted d c =
+    record {
+      decision = d;
+      trace = record { rejections = c; «evaluated_models» = d .evaluated; «eligible_models» = d .eligible };
+    }
+
+abbrev pub lever : ℕ → ℕ → ℕ → Option ℕ → Entry
+lever number current boundary cost = record { lever = number; current = current; boundary = boundary; cost = cost }
+
+abbrev pub noLever : Entry
+noLever = lever 0 0 0 none
+
+-- an answer of a boundary call, with its rooms, how many are used, and the passes
+abbrev pub boundary : ℕ → Decision → Bool → List Entry → ℕ → ℕ → Boundary
+boundary id d blocked rooms n passes =
+    record {
+      refusal = noFault;
+      model = id;
+      decision = d;
+      blocked = blocked;
+      levers = rooms;
+      count = n;
+      passes = passes;
+    }

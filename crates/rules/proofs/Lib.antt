@@ -1,0 +1,11 @@
+-- Rows and vectors of document 01, by computation, and the laws that code proofs cite.
+pub mod Choices
+pub mod Told
+pub mod ToldVerdicts
+pub mod Layouts
+pub mod Example
+pub mod Literals
+pub mod Rows
+pub mod Table
+pub mod Vectors
+pub mod Checked

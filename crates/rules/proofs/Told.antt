@@ -1,0 +1,266 @@
+-- What document 01 tells of an answer determines the answer: every `told..` of specs/Numbers.antt has a way back. Assumes nothing.
+use Prim.Native.Nat.{ℕ, _-_}
+use mathlib.Core.Path.{_≡_, refl, sym, ap, ap₂, _∙_}
+use mathlib.Core.List.{List, [], _∷_, map}
+use mathlib.Core.Option.{Option, none, some}
+use lib.IntN.{ℤ}
+use lib.ListN.{getD}
+use Rattle.rules.specs.Numbers.{Fault, toldRefusal, toldOutcome, Answer, refused, answered, actionNo, reasonNo, Decision, toldDecision, toldPrescribed, DecisionAndTrace, toldTraced, toldUtility, toldFound, Entry, toldCost, toldEntry, Boundary, toldBoundaries}
+use Rattle.rules.specs.declared.refusal.Refusal.{Refusal}
+use Rattle.rules.specs.declared.refusal.Refusal.the-variants as refusal
+use Rattle.rules.specs.declared.refusal.Outcome.{Outcome}
+use Rattle.rules.specs.declared.refusal.Outcome.the-variants as outcome
+use Rattle.rules.specs.declared.decision.KernelAction.{KernelAction}
+use Rattle.rules.specs.declared.decision.KernelAction.the-variants as action
+use Rattle.rules.specs.declared.decision.KernelReason.{KernelReason}
+use Rattle.rules.specs.declared.decision.KernelReason.the-variants as reason
+use Rattle.rules.specs.declared.decision.KernelDecision.{KernelDecision}
+use Rattle.rules.specs.declared.decision.Prescribed.{Prescribed}
+use Rattle.rules.specs.declared.decision.Prescribed.the-variants as prescribed
+use Rattle.rules.specs.declared.decision.Traced.{Traced}
+use Rattle.rules.specs.declared.decision.Traced.the-variants as traced
+use Rattle.rules.specs.declared.decision.UtilityFound.{UtilityFound}
+use Rattle.rules.specs.declared.decision.UtilityFound.the-variants as utility
+use Rattle.rules.specs.declared.decision.Found.{Found}
+use Rattle.rules.specs.declared.decision.Found.the-variants as found
+use Rattle.rules.specs.declared.boundary.BoundaryCost.{BoundaryCost}
+use Rattle.rules.specs.declared.boundary.BoundaryCost.the-variants as cost
+use Rattle.rules.specs.declared.boundary.Requirement.{Requirement}
+use Rattle.rules.specs.declared.boundary.Boundaries.{Boundaries}
+
+-- ANY TWO PERMITTED ANSWERS ARE EQUAL: where what is told has a way back, two answers that are told alike are one
+pub one-answer : {A B : Type 0} (told : A → B) (back : B → A) → ((a : A) → back (told a) ≡ a) → (rule : B) (r s : A) → told r ≡ rule → told s ≡ rule → r ≡ s
+one-answer told back way rule r s p q = sym (way r) ∙ ap back (p ∙ sym q) ∙ way s
+
+-- ---- refusals
+
+abbrev pub outcomeFrom : Fault → Outcome
+outcomeFrom f =
+    getD
+    (outcome.Answered
+    ∷ outcome.Refused refusal.UnevenBank
+    ∷ outcome.Refused refusal.CatalogTooLarge
+    ∷ outcome.Refused (refusal.InputOutOfRange (f .field) (f .value) (f .place))
+    ∷ outcome.Refused refusal.NoRoom
+    ∷ outcome.Refused refusal.UnknownModel
+    ∷ outcome.Refused refusal.NothingSelected
+    ∷ outcome.Refused refusal.NotEligible
+    ∷ outcome.Refused refusal.BeyondBank
+    ∷ outcome.Answered
+    ∷ outcome.Refused (refusal.PolicyOutOfRange (f .field) (f .value))
+    ∷ outcome.Refused refusal.EmptyCatalog
+    ∷ outcome.Refused (refusal.DuplicateModelId (f .id))
+    ∷ outcome.Refused (refusal.InvalidProviderId (f .id) (f .value))
+    ∷ outcome.Refused (refusal.ModelOutOfRange (f .field) (f .id) (f .value))
+    ∷ outcome.Refused refusal.NoEnabledModels
+    ∷ outcome.Refused refusal.ReservedModelId
+    ∷ outcome.Refused (refusal.InvalidEnabledFlag (f .id) (f .value))
+    ∷ outcome.Refused refusal.TooManyToStore
+    ∷ outcome.Refused refusal.TooManyForProgram
+    ∷ outcome.Refused refusal.CutShort
+    ∷ outcome.Refused refusal.WrongTag
+    ∷ outcome.Refused refusal.WrongLength
+    ∷ [])
+    (f .number)
+    outcome.Answered
+
+refused-back : (r : Refusal) → outcomeFrom (toldRefusal r) ≡ outcome.Refused r
+refused-back refusal.UnevenBank = refl
+refused-back refusal.CatalogTooLarge = refl
+refused-back (refusal.InputOutOfRange field value place) = refl
+refused-back refusal.NoRoom = refl
+refused-back refusal.UnknownModel = refl
+refused-back refusal.NothingSelected = refl
+refused-back refusal.NotEligible = refl
+refused-back refusal.BeyondBank = refl
+refused-back (refusal.PolicyOutOfRange field value) = refl
+refused-back refusal.EmptyCatalog = refl
+refused-back (refusal.DuplicateModelId id) = refl
+refused-back (refusal.InvalidProviderId id provider) = refl
+refused-back (refusal.ModelOutOfRange field id value) = refl
+refused-back refusal.NoEnabledModels = refl
+refused-back refusal.ReservedModelId = refl
+refused-back (refusal.InvalidEnabledFlag id value) = refl
+refused-back refusal.TooManyToStore = refl
+refused-back refusal.TooManyForProgram = refl
+refused-back refusal.CutShort = refl
+refused-back refusal.WrongTag = refl
+refused-back refusal.WrongLength = refl
+
+pub outcome-back : (o : Outcome) → outcomeFrom (toldOutcome o) ≡ o
+outcome-back outcome.Answered = refl
+outcome-back (outcome.Refused r) = refused-back r
+
+abbrev pub inside : Outcome → Refusal
+inside outcome.Answered = refusal.UnevenBank
+inside (outcome.Refused r) = r
+
+abbrev pub refusalFrom : Fault → Refusal
+refusalFrom f = inside (outcomeFrom f)
+
+pub refusal-back : (r : Refusal) → refusalFrom (toldRefusal r) ≡ r
+refusal-back r = ap inside (refused-back r)
+
+-- ---- decisions
+
+abbrev pub actionFrom : ℕ → KernelAction
+actionFrom n = getD (action.Reject ∷ action.ExecuteRequested ∷ action.Substitute ∷ []) n action.Reject
+
+action-back : (a : KernelAction) → actionFrom (actionNo a) ≡ a
+action-back action.ExecuteRequested = refl
+action-back action.Substitute = refl
+action-back action.Reject = refl
+
+-- 1 and 2 stand before those from 100 on
+abbrev pub reasonFrom : ℕ → KernelReason
+reasonFrom n =
+    getD (getD fromHundred (n - 100) reason.NoEnabledModel ∷ reason.RequestedModelMaximizesUtility ∷ reason.AlternativeMaximizesUtility ∷ []) n
+    (getD fromHundred (n - 100) reason.NoEnabledModel)
+  where
+    fromHundred : List KernelReason
+    fromHundred =
+        reason.RiskHardLimit
+        ∷ reason.ConfidenceHardLimit
+        ∷ reason.NoEnabledModel
+        ∷ reason.QualityConstraint
+        ∷ reason.LatencyConstraint
+        ∷ reason.CapabilityConstraint
+        ∷ reason.ProviderConstraint
+        ∷ reason.RegionConstraint
+        ∷ reason.BudgetConstraint
+        ∷ reason.NonPositiveUtility
+        ∷ reason.RiskCeilingConstraint
+        ∷ []
+
+reason-back : (r : KernelReason) → reasonFrom (reasonNo r) ≡ r
+reason-back reason.RequestedModelMaximizesUtility = refl
+reason-back reason.AlternativeMaximizesUtility = refl
+reason-back reason.RiskHardLimit = refl
+reason-back reason.ConfidenceHardLimit = refl
+reason-back reason.NoEnabledModel = refl
+reason-back reason.QualityConstraint = refl
+reason-back reason.LatencyConstraint = refl
+reason-back reason.CapabilityConstraint = refl
+reason-back reason.ProviderConstraint = refl
+reason-back reason.RegionConstraint = refl
+reason-back reason.BudgetConstraint = refl
+reason-back reason.NonPositiveUtility = refl
+reason-back reason.RiskCeilingConstraint = refl
+
+abbrev pub decisionFrom : Decision → KernelDecision
+decisionFrom d =
+    record {
+      «request_sequence» = d .sequence;
+      action = actionFrom (d .action);
+      reason = reasonFrom (d .reason);
+      «selected_model_id» = d .model;
+      «selected_model_index» = d .place;
+      «estimated_cost_microunits» = d .cost;
+      «expected_utility_microunits» = d .utility;
+      «counterfactual_model_id» = d .other;
+      «counterfactual_utility_microunits» = d .otherUtility;
+      «evaluated_models» = d .evaluated;
+      «eligible_models» = d .eligible;
+      «policy_epoch» = d .policyEpoch;
+      «catalog_epoch» = d .catalogEpoch;
+    }
+
+pub decision-back : (d : KernelDecision) → decisionFrom (toldDecision d) ≡ d
+decision-back d = rw (action-back (d .action), reason-back (d .reason))
+
+abbrev pub prescribedFrom : Answer Decision → Prescribed
+prescribedFrom (refused f) = prescribed.Refused (refusalFrom f)
+prescribedFrom (answered d) = prescribed.Decided (decisionFrom d)
+
+pub prescribed-back : (a : Prescribed) → prescribedFrom (toldPrescribed a) ≡ a
+prescribed-back (prescribed.Refused r) = ap prescribed.Refused (refusal-back r)
+prescribed-back (prescribed.Decided d) = ap prescribed.Decided (decision-back d)
+
+abbrev pub tracedFrom : Answer DecisionAndTrace → Traced
+tracedFrom (refused f) = traced.Refused (refusalFrom f)
+tracedFrom (answered a) = traced.Decided (decisionFrom (a .decision)) (a .trace)
+
+pub traced-back : (a : Traced) → tracedFrom (toldTraced a) ≡ a
+traced-back (traced.Refused r) = ap traced.Refused (refusal-back r)
+traced-back (traced.Decided d t) = ap (λ x. traced.Decided x t) (decision-back d)
+
+abbrev pub utilityFrom : Answer ℤ → UtilityFound
+utilityFrom (refused f) = utility.Refused (refusalFrom f)
+utilityFrom (answered u) = utility.Utility u
+
+pub utility-back : (a : UtilityFound) → utilityFrom (toldUtility a) ≡ a
+utility-back (utility.Refused r) = ap utility.Refused (refusal-back r)
+utility-back (utility.Utility u) = refl
+
+abbrev pub foundFrom : Answer (Option ℕ) → Found
+foundFrom (refused f) = found.Refused (refusalFrom f)
+foundFrom (answered none) = found.Nowhere
+foundFrom (answered (some place)) = found.At place
+
+pub found-back : (a : Found) → foundFrom (toldFound a) ≡ a
+found-back (found.Refused r) = ap found.Refused (refusal-back r)
+found-back (found.At place) = refl
+found-back found.Nowhere = refl
+
+-- ---- boundaries
+
+abbrev pub costFrom : Option ℕ → BoundaryCost
+costFrom none = cost.Unpriced
+costFrom (some c) = cost.Microunits c
+
+cost-back : (c : BoundaryCost) → costFrom (toldCost c) ≡ c
+cost-back cost.Unpriced = refl
+cost-back (cost.Microunits c) = refl
+
+abbrev pub entryFrom : Entry → Requirement
+entryFrom e =
+    record {
+      lever = e .lever;
+      current = e .current;
+      boundary = e .boundary;
+      «cost_at_boundary_microunits» = costFrom (e .cost);
+    }
+
+entry-back : (r : Requirement) → entryFrom (toldEntry r) ≡ r
+entry-back r = rw (cost-back (r .«cost_at_boundary_microunits»))
+
+entries-back : (rs : List Requirement) → map entryFrom (map toldEntry rs) ≡ rs
+entries-back [] = refl
+entries-back (r ∷ rs) = ap₂ _∷_ (entry-back r) (entries-back rs)
+
+abbrev pub boundariesFrom : Boundary → Boundaries
+boundariesFrom b =
+    record {
+      outcome = outcomeFrom (b .refusal);
+      «model_id» = b .model;
+      decision = decisionFrom (b .decision);
+      «blocked_by_request» = b .blocked;
+      levers = record { levers = map entryFrom (b .levers); count = b .count; passes = b .passes };
+    }
+
+pub boundaries-back : (b : Boundaries) → boundariesFrom (toldBoundaries b) ≡ b
+boundaries-back b =
+    rw (outcome-back (b .outcome), decision-back (b .decision), entries-back (b .levers .levers))
+
+-- ---- one law for each type that a call answers; a call's promise is the rule that it cites
+
+abbrev pub Determined : {A B : Type 0} → (A → B) → Type 0
+Determined {A} {B} told = (rule : B) (r s : A) → told r ≡ rule → told s ≡ rule → r ≡ s
+
+pub one-outcome : Determined toldOutcome
+one-outcome = one-answer toldOutcome outcomeFrom outcome-back
+
+pub one-prescribed : Determined toldPrescribed
+one-prescribed = one-answer toldPrescribed prescribedFrom prescribed-back
+
+pub one-traced : Determined toldTraced
+one-traced = one-answer toldTraced tracedFrom traced-back
+
+pub one-utility : Determined toldUtility
+one-utility = one-answer toldUtility utilityFrom utility-back
+
+pub one-found : Determined toldFound
+one-found = one-answer toldFound foundFrom found-back
+
+pub one-boundaries : Determined toldBoundaries
+one-boundaries = one-answer toldBoundaries boundariesFrom boundaries-back

@@ -1,0 +1,170 @@
+-- Document 01, "Deciding": the decision, its trace, and the calls that decide.
+use Prim.Native.Nat.{ℕ}
+use mathlib.Core.List.{List, [], _∷_, _++_}
+use mathlib.Core.Option.{Option, none, some}
+use lib.IntN.{ℤ, pos}
+use lib.ListN.{length}
+use Rattle.rules.specs.Limits.{maxBps, noPlace}
+use Rattle.rules.specs.Choice.{below, equal}
+use Rattle.rules.specs.Records.{Listed, listedOf, records, recordPart}
+use Rattle.rules.specs.Numbers.{Fault, Faults, fault, inputFault, firstFault, bankFaults, Answer, refused, answered, unless, Decision, DecisionAndTrace, Verdict}
+use Rattle.rules.specs.Verdict.{Judged, judged, verdictOf}
+use Rattle.rules.specs.Rank.{Candidate, ranking, eligibles}
+use Rattle.rules.specs.Count.{countsFrom, countsOf, dominantOf}
+use Rattle.rules.specs.declared.records.KernelInput.{KernelInput}
+use Rattle.rules.specs.declared.records.PolicySnapshot.{PolicySnapshot}
+use Rattle.rules.specs.declared.decision.DecisionTrace.{DecisionTrace}
+
+-- D1, D2. The request's limits: 100 where the risk is at or above the hard limit, else 101 where the confidence is below the minimum,
+-- else 0
+unfoldable pub stoppedBy : PolicySnapshot → KernelInput → ℕ
+stoppedBy p q =
+    below (q .«risk_bps») (p .«hard_risk_limit_bps») (below (q .«confidence_bps») (p .«minimum_confidence_bps») 101 0) 100
+
+-- D25. A rejection: action 3, model 0, place 65,535, cost and utilities 0
+unfoldable pub rejection : PolicySnapshot → KernelInput → ℕ → ℕ → Decision
+rejection p q reason evaluated =
+    record {
+      sequence = q .«request_sequence»;
+      action = 3;
+      reason = reason;
+      model = 0;
+      place = noPlace;
+      cost = 0;
+      utility = pos 0;
+      other = 0;
+      otherUtility = pos 0;
+      evaluated = evaluated;
+      eligible = 0;
+      policyEpoch = p .«policy_epoch»;
+      catalogEpoch = p .«catalog_epoch»;
+    }
+
+-- D20. Action and reason: both 1 where the chosen id is the requested one, else both 2
+unfoldable pub actionOf : ℕ → ℕ → ℕ
+actionOf chosen requested = equal chosen requested 1 2
+
+-- D26. The counterfactual is the second of the ranking: its id and utility, 0 and 0 if there is none
+abbrev pub otherId : List Candidate → ℕ
+otherId [] = 0
+otherId (c ∷ cs) = c .id
+
+abbrev pub otherWorth : List Candidate → ℤ
+otherWorth [] = pos 0
+otherWorth (c ∷ cs) = c .utility
+
+-- D26. The first of the ranking is chosen; the rest follows it
+unfoldable pub chosen : PolicySnapshot → KernelInput → ℕ → Candidate → List Candidate → Decision
+chosen p q evaluated c rest =
+    record {
+      sequence = q .«request_sequence»;
+      action = actionOf (c .id) (q .«requested_model_id»);
+      reason = actionOf (c .id) (q .«requested_model_id»);
+      model = c .id;
+      place = c .place;
+      cost = c .cost;
+      utility = c .utility;
+      other = otherId rest;
+      otherUtility = otherWorth rest;
+      evaluated = evaluated;
+      eligible = length (c ∷ rest);
+      policyEpoch = p .«policy_epoch»;
+      catalogEpoch = p .«catalog_epoch»;
+    }
+
+-- D24, D26. By the ranking; where it is empty, the reason of the largest count
+abbrev pub byRanking : PolicySnapshot → KernelInput → List Judged → List Candidate → Decision
+byRanking p q js [] = rejection p q (dominantOf (countsOf js)) (length js)
+byRanking p q js (c ∷ cs) = chosen p q (length js) c cs
+
+unfoldable pub decidedOf : PolicySnapshot → KernelInput → List Judged → Decision
+decidedOf p q js = byRanking p q js (ranking js)
+
+-- D1, D2. The decision over a list of records; a stopped request evaluates none
+unfoldable pub decisionOf : PolicySnapshot → KernelInput → List Listed → Decision
+decisionOf p q ls = equal (stoppedBy p q) 0 (decidedOf p q (judged p q ls)) (rejection p q (stoppedBy p q) 0)
+
+-- D23. The counts beside it: zero where the request is stopped
+unfoldable pub traceOf : PolicySnapshot → KernelInput → List Listed → DecisionTrace
+traceOf p q ls =
+    equal (stoppedBy p q) 0
+    (record {
+      rejections = countsOf (judged p q ls);
+      «evaluated_models» = length ls;
+      «eligible_models» = length (eligibles (judged p q ls));
+    })
+    (record { rejections = countsFrom []; «evaluated_models» = 0; «eligible_models» = 0 })
+
+abbrev pub tracedOf : PolicySnapshot → KernelInput → List Listed → DecisionAndTrace
+tracedOf p q ls = record { decision = decisionOf p q ls; trace = traceOf p q ls }
+
+-- N3. The first field of a request, among risk, confidence and minimum quality, that is above 10,000
+abbrev pub tooHigh : ℕ → ℕ → ℕ → Faults
+tooHigh place field value = below maxBps value (inputFault field value place ∷ []) []
+
+unfoldable pub requestFaults : KernelInput → ℕ → Faults
+requestFaults q place =
+    tooHigh place 1 (q .«risk_bps») ++ tooHigh place 2 (q .«confidence_bps») ++ tooHigh place 3 (q .«minimum_quality_bps»)
+
+-- N3. The request check alone
+unfoldable pub requestCheck : KernelInput → Fault
+requestCheck q = firstFault (requestFaults q 0)
+
+-- `prescribe`, `prescribe_checked`, `prescribe_with_trace` and `prescribe_with_trace_checked` over a bank
+unfoldable pub prescribeOf : PolicySnapshot → KernelInput → List ℕ → Answer Decision
+prescribeOf p q bank = unless (bankFaults bank) (answered (decisionOf p q (listedOf bank)))
+
+unfoldable pub prescribeCheckedOf : PolicySnapshot → KernelInput → List ℕ → Answer Decision
+prescribeCheckedOf p q bank = unless (bankFaults bank ++ requestFaults q 0) (answered (decisionOf p q (listedOf bank)))
+
+unfoldable pub prescribeTracedOf : PolicySnapshot → KernelInput → List ℕ → Answer DecisionAndTrace
+prescribeTracedOf p q bank = unless (bankFaults bank) (answered (tracedOf p q (listedOf bank)))
+
+unfoldable pub prescribeTracedCheckedOf : PolicySnapshot → KernelInput → List ℕ → Answer DecisionAndTrace
+prescribeTracedCheckedOf p q bank = unless (bankFaults bank ++ requestFaults q 0) (answered (tracedOf p q (listedOf bank)))
+
+-- R1. The first listed record with an id
+abbrev pub orEarlier : ℕ → Listed → Option Listed → Option Listed
+orEarlier id l later = equal (l .model .«model_id») id (some l) later
+
+unfoldable pub firstListed : ℕ → List Listed → Option Listed
+firstListed id [] = none
+firstListed id (l ∷ ls) = orEarlier id l (firstListed id ls)
+
+-- Its place: an answer also where there is none
+abbrev pub placeOf : Option Listed → Option ℕ
+placeOf none = none
+placeOf (some l) = some (l .place)
+
+unfoldable pub findOf : ℕ → List ℕ → Answer (Option ℕ)
+findOf id bank = unless (bankFaults bank) (answered (placeOf (firstListed id (listedOf bank))))
+
+-- N7. The utility of one model: refused where the request is stopped, the id isn't listed, or its first listed record isn't eligible
+abbrev pub ifEligible : Verdict → Answer ℤ
+ifEligible v = equal (v .verdict) 4 (answered (v .utility)) (refused (fault 7))
+
+abbrev pub ifListed : PolicySnapshot → KernelInput → Option Listed → Answer ℤ
+ifListed p q none = refused (fault 7)
+ifListed p q (some l) = ifEligible (verdictOf p q (l .model))
+
+unfoldable pub utilityIn : PolicySnapshot → KernelInput → ℕ → List Listed → Answer ℤ
+utilityIn p q id ls = equal (stoppedBy p q) 0 (ifListed p q (firstListed id ls)) (refused (fault 7))
+
+unfoldable pub utilityForModelOf : PolicySnapshot → KernelInput → ℕ → List ℕ → Answer ℤ
+utilityForModelOf p q id bank = unless (bankFaults bank) (utilityIn p q id (listedOf bank))
+
+-- N8. Reading a record: the place is beyond the bank
+unfoldable pub readingFaults : List ℕ → ℕ → Faults
+readingFaults bank place = bankFaults bank ++ below place (records bank) [] (fault 8 ∷ [])
+
+unfoldable pub readingOf : List ℕ → ℕ → Fault
+readingOf bank place = firstFault (readingFaults bank place)
+
+-- B5. The very part that reading hands back, empty where the call beside it answers a number
+
+abbrev pub partUnless : Faults → List ℕ → List ℕ
+partUnless [] part = part
+partUnless (f ∷ fs) part = []
+
+unfoldable pub recordOf : List ℕ → ℕ → List ℕ
+recordOf bank place = partUnless (readingFaults bank place) (recordPart bank place)

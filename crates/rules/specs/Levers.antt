@@ -1,0 +1,176 @@
+-- Document 01, "Boundaries": the levers, what it is to win with one, and the list of those found.
+use Prim.Native.Nat.{ℕ, _+_, _-_}
+use mathlib.Core.Bool.{Bool, true, false}
+use mathlib.Core.List.{List, [], _∷_, _++_}
+use mathlib.Core.Option.{Option, none, some}
+use lib.Dec.{eqb}
+use lib.ListN.{length, replicate}
+use lib.IntN.{pos}
+use Rattle.rules.specs.Limits.{ppm, noPlace}
+use Rattle.rules.specs.Choice.{equal}
+use Rattle.rules.specs.Records.{Listed, listed}
+use Rattle.rules.specs.Numbers.{Fault, noFault, Decision, Entry, Boundary}
+use Rattle.rules.specs.Price.{scaledPrice}
+use Rattle.rules.specs.Decide.{decisionOf}
+use Rattle.rules.specs.declared.records.KernelModel.{KernelModel}
+use Rattle.rules.specs.declared.records.KernelInput.{KernelInput}
+use Rattle.rules.specs.declared.records.PolicySnapshot.{PolicySnapshot}
+use Rattle.rules.specs.declared.boundary.Bound.{Bound}
+use Rattle.rules.specs.declared.boundary.Bound.the-variants.{At, Nothing}
+
+-- A model with what levers move; all else is as it is
+abbrev pub moved : KernelModel → ℕ → ℕ → ℕ → ℕ → ℕ → ℕ → KernelModel
+moved m quality ceiling enabled latency input output =
+    record {
+      «model_id» = m .«model_id»;
+      «provider_id» = m .«provider_id»;
+      «quality_bps» = quality;
+      «risk_ceiling_bps» = ceiling;
+      enabled = enabled;
+      «p95_latency_ms» = latency;
+      capabilities = m .capabilities;
+      «region_mask» = m .«region_mask»;
+      «input_cost_microunits_per_million_tokens» = input;
+      «output_cost_microunits_per_million_tokens» = output;
+    }
+
+-- W4. Lever 1
+abbrev pub withQuality : ℕ → KernelModel → KernelModel
+withQuality v m =
+    moved m v (m .«risk_ceiling_bps») (m .enabled) (m .«p95_latency_ms») (m .«input_cost_microunits_per_million_tokens») (m .«output_cost_microunits_per_million_tokens»)
+
+-- W5. Lever 2
+abbrev pub withLatency : ℕ → KernelModel → KernelModel
+withLatency v m =
+    moved m (m .«quality_bps») (m .«risk_ceiling_bps») (m .enabled) v (m .«input_cost_microunits_per_million_tokens») (m .«output_cost_microunits_per_million_tokens»)
+
+-- W6, W8. Lever 3: both prices scaled alike
+abbrev pub withPriceScale : ℕ → KernelModel → KernelModel
+withPriceScale v m =
+    moved m (m .«quality_bps») (m .«risk_ceiling_bps») (m .enabled) (m .«p95_latency_ms»)
+    (scaledPrice (m .«input_cost_microunits_per_million_tokens») v)
+    (scaledPrice (m .«output_cost_microunits_per_million_tokens») v)
+
+-- W7. Lever 4
+abbrev pub withCeiling : ℕ → KernelModel → KernelModel
+withCeiling v m =
+    moved m (m .«quality_bps») v (m .enabled) (m .«p95_latency_ms») (m .«input_cost_microunits_per_million_tokens») (m .«output_cost_microunits_per_million_tokens»)
+
+-- W3. Lever 5
+abbrev pub withEnabled : ℕ → KernelModel → KernelModel
+withEnabled v m =
+    moved m (m .«quality_bps») (m .«risk_ceiling_bps») v (m .«p95_latency_ms») (m .«input_cost_microunits_per_million_tokens») (m .«output_cost_microunits_per_million_tokens»)
+
+-- W10. A model with the lever of a number at a value
+unfoldable pub leverAt : ℕ → ℕ → KernelModel → KernelModel
+leverAt lever v m =
+    equal lever 1 (withQuality v m)
+    (equal lever 2 (withLatency v m)
+    (equal lever 3 (withPriceScale v m)
+    (equal lever 4 (withCeiling v m) (withEnabled v m))))
+
+-- W2. A decision selects an id where it is no rejection and chose that id
+unfoldable pub selects : ℕ → Decision → Bool
+selects id d = equal (d .action) 3 false (eqb (d .model) id)
+
+-- R1. The list with another model in the first listed record with an id, its place kept
+abbrev pub orStandIn : ℕ → KernelModel → Listed → List Listed → List Listed → List Listed
+orStandIn id m l rest later = equal (l .model .«model_id») id (listed (l .place) m ∷ rest) (l ∷ later)
+
+unfoldable pub varied : ℕ → KernelModel → List Listed → List Listed
+varied id m [] = []
+varied id m (l ∷ ls) = orStandIn id m l ls (varied id m ls)
+
+-- What the boundary calls ask about: policy, request, list, and the model with the id that is varied
+pub record Question : Type 0 where
+  pub policy : PolicySnapshot
+  pub request : KernelInput
+  pub list : List Listed
+  pub id : ℕ
+  pub model : KernelModel
+
+-- The decision with a lever at a value, and whether it selects the id
+unfoldable pub decisionAt : Question → ℕ → ℕ → Decision
+decisionAt a lever v = decisionOf (a .policy) (a .request) (varied (a .id) (leverAt lever v (a .model)) (a .list))
+
+unfoldable pub wins : Question → ℕ → ℕ → Bool
+wins a lever v = selects (a .id) (decisionAt a lever v)
+
+-- What was found with how many passes: none or one entry for each lever
+pub record Sought : Type 0 where
+  pub entries : List Entry
+  pub passes : ℕ
+
+abbrev pub entry : ℕ → ℕ → ℕ → Option ℕ → Entry
+entry lever current boundary cost = record { lever = lever; current = current; boundary = boundary; cost = cost }
+
+-- A lever that carries no cost
+abbrev pub plain : ℕ → ℕ → Bound → Sought
+plain lever current (At b n) = record { entries = entry lever current b none ∷ []; passes = n }
+plain lever current (Nothing n) = record { entries = []; passes = n }
+
+-- W9, P1. The price lever carries the decision's cost at its boundary, which is one pass more
+abbrev pub priced : Question → Bound → Sought
+priced a (At b n) = record { entries = entry 3 ppm b (some (decisionAt a 3 b .cost)) ∷ []; passes = n + 1 }
+priced a (Nothing n) = record { entries = []; passes = n }
+
+abbrev pub andThen : Sought → Sought → Sought
+andThen s t = record { entries = s .entries ++ t .entries; passes = s .passes + t .passes }
+
+-- Nothing sought
+abbrev pub noSearch : Sought
+noSearch = record { entries = []; passes = 0 }
+
+-- A room that no lever fills
+abbrev pub noEntry : Entry
+noEntry = entry 0 0 0 none
+
+-- P1, P6. The answer, with room for four levers; the opening decision is one pass
+unfoldable pub boundaryOf : ℕ → Decision → Bool → Sought → Boundary
+boundaryOf id d blocked s =
+    record {
+      refusal = noFault;
+      model = id;
+      decision = d;
+      blocked = blocked;
+      levers = s .entries ++ replicate (4 - length (s .entries)) noEntry;
+      count = length (s .entries);
+      passes = 1 + s .passes;
+    }
+
+-- The decision beside a refusal
+abbrev pub noDecision : Decision
+noDecision =
+    record {
+      sequence = 0;
+      action = 3;
+      reason = 102;
+      model = 0;
+      place = noPlace;
+      cost = 0;
+      utility = pos 0;
+      other = 0;
+      otherUtility = pos 0;
+      evaluated = 0;
+      eligible = 0;
+      policyEpoch = 0;
+      catalogEpoch = 0;
+    }
+
+-- P6. A refusal carries no count: every other field has its one fixed value
+abbrev pub boundaryRefused : Fault → Boundary
+boundaryRefused f =
+    record {
+      refusal = f;
+      model = 0;
+      decision = noDecision;
+      blocked = false;
+      levers = replicate 4 noEntry;
+      count = 0;
+      passes = 0;
+    }
+
+-- The first fault, or the answer where there is none
+abbrev pub boundaryUnless : List Fault → Boundary → Boundary
+boundaryUnless [] b = b
+boundaryUnless (f ∷ fs) b = boundaryRefused f

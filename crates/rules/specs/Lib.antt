@@ -1,0 +1,19 @@
+-- Document 01 as definitions, in its order. A reader has only these to believe.
+pub mod Limits
+pub mod Choice
+pub mod Bytes
+pub mod Wide
+pub mod Records
+pub mod Numbers
+pub mod Gates
+pub mod Price
+pub mod Utility
+pub mod Verdict
+pub mod Rank
+pub mod Count
+pub mod Decide
+pub mod Explain
+pub mod Halving
+pub mod Levers
+pub mod Win
+pub mod Margin

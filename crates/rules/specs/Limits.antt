@@ -1,0 +1,56 @@
+-- Sizes and limits, each named once.
+use Prim.Native.Nat.{ℕ, _-_, _^_}
+
+-- bytes of a record in a bank, of a request, of a policy and of an explanation record
+abbrev pub recordBytes : ℕ
+recordBytes = 47
+
+abbrev pub requestBytes : ℕ
+requestBytes = 70
+
+abbrev pub policyBytes : ℕ
+policyBytes = 30
+
+abbrev pub explanationBytes : ℕ
+explanationBytes = 72
+
+-- the most records that a bank may have, and the place that a rejection carries
+abbrev pub maxCatalogModels : ℕ
+maxCatalogModels = 65535
+
+abbrev pub noPlace : ℕ
+noPlace = 65535
+
+-- the largest numbers of u32, u64 and i64
+abbrev pub maxU32 : ℕ
+maxU32 = 2 ^ 32 - 1
+
+abbrev pub maxU64 : ℕ
+maxU64 = 2 ^ 64 - 1
+
+abbrev pub maxI64 : ℕ
+maxI64 = 2 ^ 63 - 1
+
+-- all 64 bits of a mask, and the highest provider that has a bit in it
+abbrev pub allOnes : ℕ
+allOnes = 2 ^ 64 - 1
+
+abbrev pub maxProviderId : ℕ
+maxProviderId = 63
+
+-- the highest basis points that are not refused, and the divisor of a product with two of them
+abbrev pub maxBps : ℕ
+maxBps = 10000
+
+abbrev pub scaledBasisPoints : ℕ
+scaledBasisPoints = 100000000
+
+-- tokens that a price is for; a scale of one, and the highest that a margin tries
+abbrev pub costScale : ℕ
+costScale = 1000000
+
+abbrev pub ppm : ℕ
+ppm = 1000000
+
+abbrev pub maxPriceScale : ℕ
+maxPriceScale = 1000000000

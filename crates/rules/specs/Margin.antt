@@ -1,0 +1,45 @@
+-- Document 01, "Boundaries": the margin of what was chosen.
+use Prim.Native.Nat.{ℕ}
+use mathlib.Core.Bool.{false}
+use mathlib.Core.List.{List}
+use mathlib.Core.Option.{Option, none, some}
+use lib.Dec.{eqb}
+use Rattle.rules.specs.Limits.{maxU32, ppm, maxPriceScale}
+use Rattle.rules.specs.Choice.{pick}
+use Rattle.rules.specs.Records.{Listed, listedOf}
+use Rattle.rules.specs.Numbers.{fault, bankFaults, Decision, Boundary}
+use Rattle.rules.specs.Decide.{decisionOf, firstListed}
+use Rattle.rules.specs.Halving.{Lowest, Highest, searchOf, searchAfterFarEnd}
+use Rattle.rules.specs.Levers.{Question, wins, Sought, plain, priced, andThen, boundaryOf, boundaryRefused, boundaryUnless}
+use Rattle.rules.specs.declared.records.KernelInput.{KernelInput}
+use Rattle.rules.specs.declared.records.PolicySnapshot.{PolicySnapshot}
+
+-- M1 to M5. Four levers: quality, lowest from 0 to today, searched at once; then, each after its far end, latency, highest from today to
+-- 2 ^ 32 - 1; price scale, highest from 1,000,000 to 1,000,000,000; ceiling, lowest from 0 to today
+unfoldable pub marginLevers : Question → Sought
+marginLevers a =
+    andThen (plain 1 (a .model .«quality_bps») (searchOf Lowest (wins a 1) 0 (a .model .«quality_bps»)))
+    (andThen (plain 2 (a .model .«p95_latency_ms») (searchAfterFarEnd Highest (wins a 2) (a .model .«p95_latency_ms») maxU32))
+    (andThen (priced a (searchAfterFarEnd Highest (wins a 3) ppm maxPriceScale))
+    (plain 4 (a .model .«risk_ceiling_bps») (searchAfterFarEnd Lowest (wins a 4) 0 (a .model .«risk_ceiling_bps»)))))
+
+-- R1. The first listed record with the chosen id is varied; a chosen id is always listed
+abbrev pub marginIfListed : PolicySnapshot → KernelInput → List Listed → Decision → Option Listed → Boundary
+marginIfListed p q ls d none = boundaryRefused (fault 6)
+marginIfListed p q ls d (some l) =
+    boundaryOf (d .model) d false
+    (marginLevers (record { policy = p; request = q; list = ls; id = d .model; model = l .model }))
+
+-- N6. A rejection has no margin
+unfoldable pub marginFor : PolicySnapshot → KernelInput → List Listed → Decision → Boundary
+marginFor p q ls d =
+    pick (eqb (d .action) 3)
+    (λ _. boundaryRefused (fault 6))
+    (λ _. marginIfListed p q ls d (firstListed (d .model) ls))
+
+unfoldable pub marginIn : PolicySnapshot → KernelInput → List Listed → Boundary
+marginIn p q ls = marginFor p q ls (decisionOf p q ls)
+
+-- `decision_margin` over a bank
+unfoldable pub decisionMarginOf : PolicySnapshot → KernelInput → List ℕ → Boundary
+decisionMarginOf p q bank = boundaryUnless (bankFaults bank) (marginIn p q (listedOf bank))

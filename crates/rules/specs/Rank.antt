@@ -1,0 +1,56 @@
+-- Document 01, "Deciding": the ranking of the eligible models.
+use Prim.Native.Nat.{ℕ}
+use mathlib.Core.Bool.{Bool, false, cond}
+use mathlib.Core.List.{List, [], _∷_, foldl}
+use lib.IntN.{ℤ}
+use Rattle.rules.specs.Choice.{equal, lower, higher}
+use Rattle.rules.specs.Verdict.{Judged}
+
+-- D22. What a model is ranked by
+pub record Candidate : Type 0 where
+  pub utility : ℤ
+  pub cost : ℕ
+  pub quality : ℕ
+  pub id : ℕ
+  pub place : ℕ
+
+abbrev pub candidateOf : Judged → Candidate
+candidateOf j =
+    record {
+      utility = j .verdict .utility;
+      cost = j .verdict .cost;
+      quality = j .listed .model .«quality_bps»;
+      id = j .listed .model .«model_id»;
+      place = j .listed .place;
+    }
+
+-- D22. Higher utility, lower cost, higher quality, lower id, earlier place
+unfoldable pub better : Candidate → Candidate → Bool
+better a b =
+    higher (a .utility) (b .utility)
+    (lower (a .cost) (b .cost)
+    (lower (b .quality) (a .quality)
+    (lower (a .id) (b .id)
+    (lower (a .place) (b .place) false))))
+
+-- A candidate goes before the first that it is better than
+abbrev pub insert : List Candidate → Candidate → List Candidate
+insert [] c = c ∷ []
+insert (x ∷ xs) c = cond (better c x) (c ∷ x ∷ xs) (x ∷ insert xs c)
+
+-- D22. The candidates in their order
+abbrev pub sorted : List Candidate → List Candidate
+sorted cs = foldl insert [] cs
+
+-- A record with verdict 4 is kept, any other one left out
+abbrev pub keep : Judged → List Candidate → List Candidate
+keep j cs = equal (j .verdict .verdict) 4 (candidateOf j ∷ cs) cs
+
+-- D22. The eligible models, as they are listed
+abbrev pub eligibles : List Judged → List Candidate
+eligibles [] = []
+eligibles (j ∷ js) = keep j (eligibles js)
+
+-- D22. The ranking
+unfoldable pub ranking : List Judged → List Candidate
+ranking js = sorted (eligibles js)

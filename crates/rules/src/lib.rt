@@ -1,0 +1,34 @@
+// The types and constants that every crate shares, under the names of the Rust, a file for each part of document 01.
+// What they mean is said in specs/. No code here does more than give a case its number.
+pub mod boundary;
+pub mod decision;
+pub mod limits;
+pub mod records;
+pub mod refusal;
+pub mod verdict;
+pub mod wide;
+
+pub use boundary::Bound;
+pub use boundary::Boundaries;
+pub use boundary::BoundaryCost;
+pub use boundary::Levers;
+pub use boundary::Requirement;
+pub use decision::DecisionTrace;
+pub use decision::Found;
+pub use decision::KernelAction;
+pub use decision::KernelDecision;
+pub use decision::KernelReason;
+pub use decision::Prescribed;
+pub use decision::RejectionHistogram;
+pub use decision::Traced;
+pub use decision::UtilityFound;
+pub use records::KernelInput;
+pub use records::KernelModel;
+pub use records::PolicySnapshot;
+pub use refusal::Outcome;
+pub use refusal::Refusal;
+pub use verdict::CandidateVerdict;
+pub use verdict::GateDetail;
+pub use verdict::UtilityTerms;
+pub use wide::SignedWide;
+pub use wide::Wide;

@@ -1,0 +1,31 @@
+// Sizes and limits. specs/Limits.antt states the same numbers for the rules.
+
+// One basis point is a ten-thousandth.
+pub const BASIS_POINTS: u64 = 10_000;
+// Every provider is admitted: all 64 bits.
+pub const ALL_PROVIDERS: u64 = 0xffff_ffff_ffff_ffff;
+// Every region: all 64 bits. The region gate has no branch of its own for it.
+pub const ALL_REGIONS: u64 = 0xffff_ffff_ffff_ffff;
+// A provider above this has no bit in a mask.
+pub const MAX_PROVIDER_ID: u16 = 63;
+// The most records that a decision's 16-bit counts and places can tell.
+pub const MAX_CATALOG_MODELS: usize = 65_535;
+// The highest basis points that checked calls and validation take.
+pub const MAX_BPS: u16 = 10_000;
+// The highest risk multiplier that validation takes.
+pub const MAX_RISK_PENALTY_MULTIPLIER_BPS: u16 = 50_000;
+// A price scale of one: today's price.
+pub const PPM: u64 = 1_000_000;
+// The highest price scale that a margin tries: a thousand times today's price.
+pub const MAX_PRICE_SCALE_PPM: u64 = 1_000_000_000;
+
+// A model's bytes in a bank.
+pub const RECORD_BYTES: usize = 47;
+// A request's bytes, and a policy's.
+pub const REQUEST_BYTES: usize = 70;
+
+pub const POLICY_BYTES: usize = 30;
+// An explanation record's bytes.
+pub const EXPLANATION_BYTES: usize = 72;
+// The place that a rejection carries.
+pub const NO_PLACE: u16 = 65_535;

@@ -1,0 +1,45 @@
+// What comes in: a model, a request, and the numbers of a policy. Field names and order are the Rust's.
+
+pub struct KernelModel {
+    pub model_id: u32,
+    // 0 to 63; a higher one fails gate 5.
+    pub provider_id: u16,
+    pub quality_bps: u16,
+    // The highest risk that the model takes.
+    pub risk_ceiling_bps: u16,
+    // 0 is switched off; every other byte is on.
+    pub enabled: u8,
+    pub p95_latency_ms: u32,
+    pub capabilities: u64,
+    pub region_mask: u64,
+    pub input_cost_microunits_per_million_tokens: u64,
+    pub output_cost_microunits_per_million_tokens: u64,
+}
+
+pub struct KernelInput {
+    pub request_sequence: u64,
+    pub requested_model_id: u32,
+    pub input_tokens: u32,
+    pub output_tokens: u32,
+    pub business_value_microunits: i64,
+    pub budget_limit_microunits: u64,
+    pub risk_bps: u16,
+    pub confidence_bps: u16,
+    pub minimum_quality_bps: u16,
+    // 0 is no limit.
+    pub max_p95_latency_ms: u32,
+    pub required_capabilities: u64,
+    pub allowed_provider_mask: u64,
+    // 0 is no demand.
+    pub required_region_mask: u64,
+}
+
+// The policy's six numbers. The bank stands beside it, lent by the caller.
+pub struct PolicySnapshot {
+    pub policy_epoch: u64,
+    pub catalog_epoch: u64,
+    pub hard_risk_limit_bps: u16,
+    pub minimum_confidence_bps: u16,
+    pub risk_penalty_multiplier_bps: u16,
+    pub latency_penalty_microunits_per_ms: u64,
+}

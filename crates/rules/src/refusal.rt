@@ -1,0 +1,118 @@
+// Why a call is refused: a case for each of document 01's numbers, with that number's values.
+ghost use mathlib.Core.Path.{_≡_};
+ghost use Rattle.rules.specs.Numbers.{toldRefusal};
+
+pub enum Refusal {
+    // 1: the bank's length is no multiple of a record's.
+    UnevenBank,
+    // 2
+    CatalogTooLarge,
+    // 3: field 1 is the risk, 2 the confidence, 3 the minimum quality.
+    InputOutOfRange {
+        field: u8,
+        value: u16,
+        place: usize,
+    },
+    // 4
+    NoRoom,
+    // 5
+    UnknownModel,
+    // 6
+    NothingSelected,
+    // 7
+    NotEligible,
+    // 8
+    BeyondBank,
+    // 10: field 4 is the hard risk limit, 5 the minimum confidence, 6 the multiplier.
+    PolicyOutOfRange {
+        field: u8,
+        value: u16,
+    },
+    // 11
+    EmptyCatalog,
+    // 12
+    DuplicateModelId {
+        model_id: u32,
+    },
+    // 13
+    InvalidProviderId {
+        model_id: u32,
+        provider_id: u16,
+    },
+    // 14: field 7 is the quality, 8 the ceiling.
+    ModelOutOfRange {
+        field: u8,
+        model_id: u32,
+        value: u16,
+    },
+    // 15
+    NoEnabledModels,
+    // 16
+    ReservedModelId,
+    // 17
+    InvalidEnabledFlag {
+        model_id: u32,
+        value: u8,
+    },
+    // 18
+    TooManyToStore,
+    // 19
+    TooManyForProgram,
+    // 20
+    CutShort,
+    // 21
+    WrongTag,
+    // 22
+    WrongLength,
+}
+
+// Whether a call was refused, where it answers nothing else or its answer stands beside this.
+pub enum Outcome {
+    Answered,
+    Refused(Refusal),
+}
+
+impl Refusal {
+    // Document 01's number.
+    pub fn number(self) -> u8
+        ensures { λ r. ⌜ r ≡ toldRefusal self .number ⌝ }
+    {
+        match self {
+            Refusal::UnevenBank => 1,
+            Refusal::CatalogTooLarge => 2,
+            Refusal::InputOutOfRange {
+                field: _,
+                value: _,
+                place: _,
+            } => 3,
+            Refusal::NoRoom => 4,
+            Refusal::UnknownModel => 5,
+            Refusal::NothingSelected => 6,
+            Refusal::NotEligible => 7,
+            Refusal::BeyondBank => 8,
+            Refusal::PolicyOutOfRange { field: _, value: _ } => 10,
+            Refusal::EmptyCatalog => 11,
+            Refusal::DuplicateModelId { model_id: _ } => 12,
+            Refusal::InvalidProviderId {
+                model_id: _,
+                provider_id: _,
+            } => 13,
+            Refusal::ModelOutOfRange {
+                field: _,
+                model_id: _,
+                value: _,
+            } => 14,
+            Refusal::NoEnabledModels => 15,
+            Refusal::ReservedModelId => 16,
+            Refusal::InvalidEnabledFlag {
+                model_id: _,
+                value: _,
+            } => 17,
+            Refusal::TooManyToStore => 18,
+            Refusal::TooManyForProgram => 19,
+            Refusal::CutShort => 20,
+            Refusal::WrongTag => 21,
+            Refusal::WrongLength => 22,
+        }
+    }
+}
