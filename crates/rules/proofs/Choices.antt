@@ -3,11 +3,11 @@ use Prim.Native.Nat.{ℕ, _<_, _≤_}
 use mathlib.Core.Path.{_≡_, refl, _∙_}
 use mathlib.Core.Bool.{Bool, true, false}
 use native.Mathlib.Omega.{arith}
-use borrow.Author.Tests.{lt-ltb, le-ltb, eq-eqb, ne-eqb}
+use borrow.Author.Tests.{lt-ltb, le-ltb, le-leb, lt-leb, eq-eqb, ne-eqb}
 use lib.Dec.{ltb, eqb}
 use lib.IntN.{ℤ}
 use lib.Signed.{ltZ}
-use Rattle.rules.specs.Choice.{below, equal, firstly, lower, higher}
+use Rattle.rules.specs.Choice.{below, atLeast, equal, firstly, lower, higher}
 
 module _ {A : Type 0} (a b : ℕ) (x y : A) where
   pub below-yes : a < b → below a b x y ≡ x
@@ -17,6 +17,14 @@ module _ {A : Type 0} (a b : ℕ) (x y : A) where
   pub below-no : b ≤ a → below a b x y ≡ y
   unfolding below
   below-no h = rw (le-ltb a b h)
+
+  pub atLeast-yes : b ≤ a → atLeast a b x y ≡ x
+  unfolding atLeast
+  atLeast-yes h = rw (le-leb b a h)
+
+  pub atLeast-no : a < b → atLeast a b x y ≡ y
+  unfolding atLeast
+  atLeast-no h = rw (lt-leb b a h)
 
   pub equal-yes : a ≡ b → equal a b x y ≡ x
   unfolding equal

@@ -4,7 +4,7 @@ use Prim.Native.Nat.{ℕ}
 use mathlib.Core.Path.{_≡_}
 use mathlib.Core.List.{List, [], _∷_}
 use Rattle.rules.specs.Records.{inputOf, policyOf}
-use Rattle.rules.specs.Numbers.{Answer, answered, Decision, DecisionAndTrace, Boundary}
+use Rattle.rules.specs.Numbers.{Answer, refused, answered, fault, Decision, DecisionAndTrace, Boundary}
 use Rattle.rules.specs.Decide.{prescribeTracedOf}
 use Rattle.rules.specs.Explain.{explainOf, explainList}
 use Rattle.rules.specs.Win.{whatWouldWinOf}
@@ -27,6 +27,13 @@ explains b p q list d after =
     says {A = Answer Decision × List ℕ}
     (explainOf (policyOf p) (inputOf q) b list, explainList (policyOf p) (inputOf q) b list)
     (answered d, after)
+
+-- a refused explanation, which leaves the list as it was
+abbrev pub refuses : List ℕ → List ℕ → List ℕ → List ℕ → ℕ → Row
+refuses b p q list n =
+    says {A = Answer Decision × List ℕ}
+    (explainOf (policyOf p) (inputOf q) b list, explainList (policyOf p) (inputOf q) b list)
+    (refused (fault n), list)
 
 -- the boundaries of a model that isn't chosen, and of the one that is
 abbrev pub wouldWin : List ℕ → List ℕ → List ℕ → ℕ → Boundary → Row

@@ -14,8 +14,8 @@ abbrev pub choice : Decision
 choice = decision 42 2 2 2 1 300 (pos 6200) 1 (pos 5200) 2 2 7 3
 
 -- a rejection of the example's request
-abbrev pub refusal : ℕ → ℕ → Decision
-refusal reason evaluated = decision 42 3 reason 0 65535 0 (pos 0) 0 (pos 0) evaluated 0 7 3
+abbrev pub rejected : ℕ → ℕ → Decision
+rejected reason evaluated = decision 42 3 reason 0 65535 0 (pos 0) 0 (pos 0) evaluated 0 7 3
 
 -- (A)'s explanation: two eligible records, with quality, risk, cost, latency and utility
 abbrev pub explanation : List ℕ
@@ -52,21 +52,21 @@ rows =
     4
     95)
     -- (D) risk 9,000, at the hard limit
-    ∷ decides bank policy (with 36 (40 ∷ 35 ∷ []) request) (counted (refusal 100 0) noCounts)
+    ∷ decides bank policy (with 36 (40 ∷ 35 ∷ []) request) (counted (rejected 100 0) noCounts)
     -- (E) risk 8,999
-    ∷ decides bank policy (with 36 (39 ∷ 35 ∷ []) request) (counted (refusal 110 2) (counts 0 0 2 0 0 0 0 0 0))
+    ∷ decides bank policy (with 36 (39 ∷ 35 ∷ []) request) (counted (rejected 110 2) (counts 0 0 2 0 0 0 0 0 0))
     -- (F) confidence 1,999, and 2,000
-    ∷ decides bank policy (with 38 (207 ∷ 7 ∷ []) request) (counted (refusal 101 0) noCounts)
-    ∷ decides bank policy (with 38 (208 ∷ 7 ∷ []) request) (counted (refusal 109 2) (counts 0 0 0 0 0 0 0 0 2))
+    ∷ decides bank policy (with 38 (207 ∷ 7 ∷ []) request) (counted (rejected 101 0) noCounts)
+    ∷ decides bank policy (with 38 (208 ∷ 7 ∷ []) request) (counted (rejected 109 2) (counts 0 0 0 0 0 0 0 0 2))
     -- (G) one token each way, at price 1
     ∷ decides (with 31 (1 ∷ replicate 7 0 ++ 1 ∷ replicate 7 0) modelOne) policy (with 12 (1 ∷ 0 ∷ 0 ∷ 0 ∷ 1 ∷ []) request)
     (counted (decision 42 1 1 1 0 2 (pos 6998) 0 (pos 0) 1 1 7 3) noCounts)
     -- (H) an empty bank
-    ∷ decides [] policy request (counted (refusal 102 0) noCounts)
+    ∷ decides [] policy request (counted (rejected 102 0) noCounts)
     -- (I) model 1 without its capabilities, model 2 switched off
-    ∷ decides (with 15 (0 ∷ []) modelOne ++ with 10 (0 ∷ []) modelTwo) policy request (counted (refusal 102 2) (counts 1 0 0 0 1 0 0 0 0))
+    ∷ decides (with 15 (0 ∷ []) modelOne ++ with 10 (0 ∷ []) modelTwo) policy request (counted (rejected 102 2) (counts 1 0 0 0 1 0 0 0 0))
     -- (J) provider 64, and a mask of all ones
-    ∷ explains (with 4 (64 ∷ []) modelOne) policy request (replicate 72 255) (refusal 106 1) noProvider
+    ∷ explains (with 4 (64 ∷ []) modelOne) policy request (replicate 72 255) (rejected 106 1) noProvider
     -- (K) value -1
-    ∷ decides bank policy (with 20 (replicate 8 255) request) (counted (refusal 109 2) (counts 0 0 0 0 0 0 0 0 2))
+    ∷ decides bank policy (with 20 (replicate 8 255) request) (counted (rejected 109 2) (counts 0 0 0 0 0 0 0 0 2))
     ∷ []

@@ -13,12 +13,20 @@ use Rattle.rules.specs.Utility.{held}
 use Rattle.rules.specs.Verdict.{verdictOf}
 use Rattle.rules.specs.Rank.{Candidate, sorted}
 use Rattle.rules.specs.Count.{dominantOf}
-use Rattle.rules.specs.Decide.{requestCheck, prescribeOf, prescribeCheckedOf, prescribeTracedCheckedOf, findOf, utilityForModelOf, readingOf, recordOf}
-use Rattle.rules.proofs.Rows.{Row, says, decides, explains, wouldWin, margin}
+use Rattle.rules.specs.Listing.{findOf, readingOf, recordOf}
+use Rattle.rules.specs.Decide.{requestCheck, prescribeOf, prescribeCheckedOf, prescribeTracedCheckedOf, utilityForModelOf}
+use Rattle.rules.proofs.Rows.{Row, says, decides, explains, refuses, wouldWin, margin}
 use Rattle.rules.proofs.Example.{bank, modelOne, modelTwo, policy, request, with, decision, counts, noCounts, counted, lever, noLever, boundary}
 use Rattle.rules.proofs.Literals.{modelBytes47, modelSaid, requestBytes70, requestSaid, policyBytes30, policySaid, fourModels, fourRequest, fourPolicy, fourExplained, passes, gateRequest, gatePolicy}
 
--- ---- bytes: each way, and an explanation of each verdict
+-- the example's request with risk 9,000, and its rejection
+abbrev atHardLimit : List ℕ
+atHardLimit = with 36 (40 ∷ 35 ∷ []) request
+
+abbrev stopped : Decision
+stopped = decision 42 3 100 0 65535 0 (pos 0) 0 (pos 0) 0 0 7 3
+
+-- ---- bytes: each way, an explanation of each verdict, and one refused
 
 abbrev pub byteRows : List Row
 byteRows =
@@ -31,6 +39,10 @@ byteRows =
     ∷ explains fourModels fourPolicy fourRequest fourExplained
     (decision 72623859790382856 2 2 1145258561 3 5261728424987371 (pos 1234605616686861287) 0 (pos 0) 4 1 11 12)
     fourExplained
+    -- a list one byte short is refused and left alone; 1 comes before 4; a stopped request needs no room
+    ∷ refuses bank policy request (replicate 143 255) 4
+    ∷ refuses (0 ∷ bank) policy request [] 1
+    ∷ explains bank policy atHardLimit [] stopped []
     ∷ []
 
 -- ---- gates, what they measure, and the nine counts
@@ -124,6 +136,10 @@ reasonRows =
 abbrev candidate : ℤ → ℕ → ℕ → ℕ → ℕ → Candidate
 candidate utility cost quality id place = record { utility = utility; cost = cost; quality = quality; id = id; place = place }
 
+-- the example's request with value 1, no risk, no tokens and no minimum quality
+abbrev worthOne : List ℕ
+worthOne = with 12 (replicate 8 0) (with 20 (1 ∷ 0 ∷ []) (with 36 (0 ∷ 0 ∷ []) (with 40 (0 ∷ 0 ∷ []) request)))
+
 abbrev pub rankRows : List Row
 rankRows =
     says
@@ -151,6 +167,13 @@ rankRows =
     -- the highest price a million times over costs 2 ^ 64 - 1, and a thousandfold price is held there too
     ∷ says (costOf (modelOf (with 31 (replicate 8 255) modelOne)) (inputOf (with 12 (replicate 4 255) request))) (2 ^ 64 - 1)
     ∷ says (scaledPrice (2 ^ 64 - 1) 1000000) (2 ^ 64 - 1)
+    -- a utility of 1 is positive
+    ∷ says (verdictOf (policyOf (with 20 (replicate 10 0) policy)) (inputOf worthOne) (modelOf (with 6 (16 ∷ 39 ∷ []) modelOne)) .verdict) 4
+    -- three utilities held at 2 ^ 63 - 1: the cost decides
+    ∷ decides (with 6 (255 ∷ 255 ∷ []) modelOne ++ with 6 (254 ∷ 255 ∷ []) modelTwo ++ with 0 (3 ∷ []) (with 6 (255 ∷ 255 ∷ []) (with 31 (replicate 8 0) modelOne)))
+    policy
+    (with 20 (replicate 7 255 ++ 127 ∷ []) (with 38 (255 ∷ 255 ∷ []) request))
+    (counted (decision 42 2 2 2 1 300 (pos 9223372036854775807) 3 (pos 9223372036854775807) 3 3 7 3) noCounts)
     ∷ says (scaledPrice (2 ^ 64 - 1) 1000001) (2 ^ 64 - 1)
     ∷ says (scaledPrice 3 999999) 2
     ∷ []
@@ -175,7 +198,10 @@ refusalRows =
     ∷ says (findOf 3 bank) (answered none)
     ∷ says (utilityForModelOf (policyOf policy) (inputOf request) 1 bank) (answered (pos 5200))
     ∷ says (utilityForModelOf (policyOf policy) (inputOf request) 3 bank) (refused (fault 7))
-    ∷ says (utilityForModelOf (policyOf policy) (inputOf (with 36 (40 ∷ 35 ∷ []) request)) 1 bank) (refused (fault 7))
+    ∷ says (utilityForModelOf (policyOf policy) (inputOf atHardLimit) 1 bank) (refused (fault 7))
+    -- priced, but not eligible; eligible, but the request is stopped
+    ∷ says (utilityForModelOf (policyOf policy) (inputOf (with 38 (208 ∷ 7 ∷ []) request)) 1 bank) (refused (fault 7))
+    ∷ says (utilityForModelOf (policyOf (with 20 (0 ∷ 0 ∷ []) policy)) (inputOf atHardLimit) 1 (with 8 (40 ∷ 35 ∷ []) modelOne)) (refused (fault 7))
     -- its first listed record counts, though a later one is eligible
     ∷ says (utilityForModelOf (policyOf policy) (inputOf request) 1 (with 10 (0 ∷ []) modelOne ++ modelOne)) (refused (fault 7))
     ∷ says (readingOf bank 1) noFault
@@ -217,16 +243,23 @@ closer = decision 42 2 2 2 1 300 (pos 6200) 1 (pos 6200) 2 2 7 3
 abbrev seven : Decision
 seven = decision 42 2 2 7 1 300 (pos 6200) 0 (pos 0) 2 1 7 3
 
+abbrev named : ℕ → List ℕ → List ℕ
+named id s = with 0 (id ∷ []) s
+
 abbrev sevens : List ℕ
-sevens = with 0 (7 ∷ []) (with 15 (0 ∷ []) modelTwo) ++ with 0 (7 ∷ []) modelTwo
+sevens = named 7 (with 15 (0 ∷ []) modelTwo) ++ named 7 modelTwo
+
+-- model 1 without its capabilities
+abbrev incapable : List ℕ
+incapable = with 15 (0 ∷ []) modelOne
 
 abbrev pub boundaryRows : List Row
 boundaryRows =
     -- selected already; not listed, also where the request is stopped; stopped
     wouldWin bank policy request 2 (noLevers 2 choice 1)
-    ∷ wouldWin bank policy (with 36 (40 ∷ 35 ∷ []) request) 3 (boundaryRefusal 5)
-    ∷ wouldWin bank policy (with 36 (40 ∷ 35 ∷ []) request) 1
-    (boundary 1 (decision 42 3 100 0 65535 0 (pos 0) 0 (pos 0) 0 0 7 3) true (noLever ∷ noLever ∷ noLever ∷ noLever ∷ []) 0 1)
+    ∷ wouldWin bank policy atHardLimit 3 (boundaryRefusal 5)
+    ∷ wouldWin bank policy atHardLimit 1
+    (boundary 1 stopped true (noLever ∷ noLever ∷ noLever ∷ noLever ∷ []) 0 1)
     -- a rejection selects no id, 0 included: id 0 is listed and searched, and its price alone would do
     ∷ wouldWin (with 0 (0 ∷ []) modelOne) policy (with 28 (0 ∷ 0 ∷ []) request) 0
     (boundary 0 (decision 42 3 108 0 65535 0 (pos 0) 0 (pos 0) 1 0 7 3) false (lever 3 1000000 0 (some 0) ∷ noLever ∷ noLever ∷ noLever ∷ []) 1 25)
@@ -237,6 +270,22 @@ boundaryRows =
     -- quality 10,000 costs one pass, a ceiling above it none
     ∷ wouldWin (with 6 (16 ∷ 39 ∷ 17 ∷ 39 ∷ []) modelOne ++ modelTwo) policy request 1
     (boundary 1 closer false (lever 2 100 99 none ∷ lever 3 1000000 999333 (some 1799) ∷ noLever ∷ noLever ∷ []) 2 32)
+    -- enabled 2 is on: the four levers are searched, in vain
+    ∷ wouldWin (with 10 (2 ∷ []) incapable ++ modelTwo) policy request 1 (noLevers 1 alone 5)
+    -- a quality above 10,000 costs no pass either
+    ∷ wouldWin (with 6 (17 ∷ 39 ∷ 17 ∷ 39 ∷ []) incapable ++ modelTwo) policy request 1 (noLevers 1 alone 3)
+    -- off, but selected through a later record with the id, or stopped: one pass; off and not selected: only enabled, though a later
+    -- record with the id is on
+    ∷ wouldWin (named 7 (with 10 (0 ∷ []) modelOne) ++ named 7 modelTwo) policy request 7 (noLevers 7 seven 1)
+    ∷ wouldWin (with 10 (0 ∷ []) modelOne) policy atHardLimit 1 (boundary 1 stopped true (noLever ∷ noLever ∷ noLever ∷ noLever ∷ []) 0 1)
+    ∷ wouldWin (named 7 (with 10 (0 ∷ []) modelOne) ++ named 8 modelTwo ++ named 7 modelOne) policy request 7
+    (noLevers 7 (decision 42 2 2 8 1 300 (pos 6200) 7 (pos 5200) 3 2 7 3) 2)
+    -- no latency loses: the far end wins, and there is no lever 2
+    ∷ margin modelTwo (with 22 (0 ∷ []) policy) (with 42 (replicate 4 255) request)
+    (boundary 2 (decision 42 2 2 2 0 300 (pos 6700) 0 (pos 0) 1 1 7 3) false
+    (lever 1 8000 5000 none ∷ lever 3 1000000 16665000 (some 5000) ∷ lever 4 8000 1000 none ∷ noLever ∷ [])
+    3
+    62)
     -- a rejection has no margin; with repeated ids the first listed record is varied
     ∷ margin bank policy (with 20 (replicate 8 255) request) (boundaryRefusal 6)
     ∷ margin sevens policy request (boundary 7 seven false (lever 1 8000 0 none ∷ noLever ∷ noLever ∷ noLever ∷ []) 1 18)

@@ -1,13 +1,17 @@
 -- Choices by a test, under names that read as sentences.
 use Prim.Native.Nat.{ℕ}
 use mathlib.Core.Bool.{Bool, true, false, cond}
-use lib.Dec.{eqb, ltb}
+use lib.Dec.{eqb, leb, ltb}
 use lib.IntN.{ℤ}
 use lib.Signed.{ltZ}
 
 -- x where a is below b, else y
 unfoldable pub below : {A : Type 0} → ℕ → ℕ → A → A → A
 below a b x y = cond (ltb a b) x y
+
+-- x where a is at or above b, else y
+unfoldable pub atLeast : {A : Type 0} → ℕ → ℕ → A → A → A
+atLeast a b x y = cond (leb b a) x y
 
 -- x where a is b, else y
 unfoldable pub equal : {A : Type 0} → ℕ → ℕ → A → A → A

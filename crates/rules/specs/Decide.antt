@@ -5,21 +5,23 @@ use mathlib.Core.Option.{Option, none, some}
 use lib.IntN.{ℤ, pos}
 use lib.ListN.{length}
 use Rattle.rules.specs.Limits.{maxBps, noPlace}
-use Rattle.rules.specs.Choice.{below, equal}
-use Rattle.rules.specs.Records.{Listed, listedOf, records, recordPart}
-use Rattle.rules.specs.Numbers.{Fault, Faults, fault, inputFault, firstFault, bankFaults, Answer, refused, answered, unless, Decision, DecisionAndTrace, Verdict}
+use Rattle.rules.specs.Choice.{below, atLeast, equal}
+use Rattle.rules.specs.Records.{Listed, listedOf}
+use Rattle.rules.specs.Numbers.{Fault, Faults, fault, inputFault, firstFault, bankFaults, Answer, refused, answered, unless, Decision, DecisionAndTrace, Verdict, whereEligible}
+use Rattle.rules.specs.Listing.{firstListed}
 use Rattle.rules.specs.Verdict.{Judged, judged, verdictOf}
-use Rattle.rules.specs.Rank.{Candidate, ranking, eligibles}
+use Rattle.rules.specs.Rank.{Candidate, ranking}
 use Rattle.rules.specs.Count.{countsFrom, countsOf, dominantOf}
 use Rattle.rules.specs.declared.records.KernelInput.{KernelInput}
 use Rattle.rules.specs.declared.records.PolicySnapshot.{PolicySnapshot}
+use Rattle.rules.specs.declared.decision.RejectionHistogram.{RejectionHistogram}
 use Rattle.rules.specs.declared.decision.DecisionTrace.{DecisionTrace}
 
 -- D1, D2. The request's limits: 100 where the risk is at or above the hard limit, else 101 where the confidence is below the minimum,
 -- else 0
 unfoldable pub stoppedBy : PolicySnapshot → KernelInput → ℕ
 stoppedBy p q =
-    below (q .«risk_bps») (p .«hard_risk_limit_bps») (below (q .«confidence_bps») (p .«minimum_confidence_bps») 101 0) 100
+    atLeast (q .«risk_bps») (p .«hard_risk_limit_bps») 100 (below (q .«confidence_bps») (p .«minimum_confidence_bps») 101 0)
 
 -- D25. A rejection: action 3, model 0, place 65,535, cost and utilities 0
 unfoldable pub rejection : PolicySnapshot → KernelInput → ℕ → ℕ → Decision
@@ -40,9 +42,9 @@ rejection p q reason evaluated =
       catalogEpoch = p .«catalog_epoch»;
     }
 
--- D20. Action and reason: both 1 where the chosen id is the requested one, else both 2
-unfoldable pub actionOf : ℕ → ℕ → ℕ
-actionOf chosen requested = equal chosen requested 1 2
+-- D20. The number of both action and reason: 1 where the chosen id is the requested one, else 2
+unfoldable pub executedAs : ℕ → ℕ → ℕ
+executedAs id requested = equal id requested 1 2
 
 -- D26. The counterfactual is the second of the ranking: its id and utility, 0 and 0 if there is none
 abbrev pub otherId : List Candidate → ℕ
@@ -58,8 +60,8 @@ unfoldable pub chosen : PolicySnapshot → KernelInput → ℕ → Candidate →
 chosen p q evaluated c rest =
     record {
       sequence = q .«request_sequence»;
-      action = actionOf (c .id) (q .«requested_model_id»);
-      reason = actionOf (c .id) (q .«requested_model_id»);
+      action = executedAs (c .id) (q .«requested_model_id»);
+      reason = executedAs (c .id) (q .«requested_model_id»);
       model = c .id;
       place = c .place;
       cost = c .cost;
@@ -82,21 +84,18 @@ decidedOf p q js = byRanking p q js (ranking js)
 
 -- D1, D2. The decision over a list of records; a stopped request evaluates none
 unfoldable pub decisionOf : PolicySnapshot → KernelInput → List Listed → Decision
-decisionOf p q ls = equal (stoppedBy p q) 0 (decidedOf p q (judged p q ls)) (rejection p q (stoppedBy p q) 0)
+decisionOf p q ls = below 0 (stoppedBy p q) (rejection p q (stoppedBy p q) 0) (decidedOf p q (judged p q ls))
 
--- D23. The counts beside it: zero where the request is stopped
-unfoldable pub traceOf : PolicySnapshot → KernelInput → List Listed → DecisionTrace
-traceOf p q ls =
-    equal (stoppedBy p q) 0
-    (record {
-      rejections = countsOf (judged p q ls);
-      «evaluated_models» = length ls;
-      «eligible_models» = length (eligibles (judged p q ls));
-    })
-    (record { rejections = countsFrom []; «evaluated_models» = 0; «eligible_models» = 0 })
+-- D1, D2, D23. The counts: zero where the request is stopped
+unfoldable pub countsIn : PolicySnapshot → KernelInput → List Listed → RejectionHistogram
+countsIn p q ls = below 0 (stoppedBy p q) (countsFrom []) (countsOf (judged p q ls))
+
+-- D23. A decision with its counts
+unfoldable pub traceOf : Decision → RejectionHistogram → DecisionTrace
+traceOf d counts = record { rejections = counts; «evaluated_models» = d .evaluated; «eligible_models» = d .eligible }
 
 abbrev pub tracedOf : PolicySnapshot → KernelInput → List Listed → DecisionAndTrace
-tracedOf p q ls = record { decision = decisionOf p q ls; trace = traceOf p q ls }
+tracedOf p q ls = record { decision = decisionOf p q ls; trace = traceOf (decisionOf p q ls) (countsIn p q ls) }
 
 -- N3. The first field of a request, among risk, confidence and minimum quality, that is above 10,000
 abbrev pub tooHigh : ℕ → ℕ → ℕ → Faults
@@ -123,48 +122,16 @@ prescribeTracedOf p q bank = unless (bankFaults bank) (answered (tracedOf p q (l
 unfoldable pub prescribeTracedCheckedOf : PolicySnapshot → KernelInput → List ℕ → Answer DecisionAndTrace
 prescribeTracedCheckedOf p q bank = unless (bankFaults bank ++ requestFaults q 0) (answered (tracedOf p q (listedOf bank)))
 
--- R1. The first listed record with an id
-abbrev pub orEarlier : ℕ → Listed → Option Listed → Option Listed
-orEarlier id l later = equal (l .model .«model_id») id (some l) later
-
-unfoldable pub firstListed : ℕ → List Listed → Option Listed
-firstListed id [] = none
-firstListed id (l ∷ ls) = orEarlier id l (firstListed id ls)
-
--- Its place: an answer also where there is none
-abbrev pub placeOf : Option Listed → Option ℕ
-placeOf none = none
-placeOf (some l) = some (l .place)
-
-unfoldable pub findOf : ℕ → List ℕ → Answer (Option ℕ)
-findOf id bank = unless (bankFaults bank) (answered (placeOf (firstListed id (listedOf bank))))
-
 -- N7. The utility of one model: refused where the request is stopped, the id isn't listed, or its first listed record isn't eligible
 abbrev pub ifEligible : Verdict → Answer ℤ
-ifEligible v = equal (v .verdict) 4 (answered (v .utility)) (refused (fault 7))
+ifEligible v = whereEligible v (answered (v .utility)) (refused (fault 7))
 
 abbrev pub ifListed : PolicySnapshot → KernelInput → Option Listed → Answer ℤ
 ifListed p q none = refused (fault 7)
 ifListed p q (some l) = ifEligible (verdictOf p q (l .model))
 
 unfoldable pub utilityIn : PolicySnapshot → KernelInput → ℕ → List Listed → Answer ℤ
-utilityIn p q id ls = equal (stoppedBy p q) 0 (ifListed p q (firstListed id ls)) (refused (fault 7))
+utilityIn p q id ls = below 0 (stoppedBy p q) (refused (fault 7)) (ifListed p q (firstListed id ls))
 
 unfoldable pub utilityForModelOf : PolicySnapshot → KernelInput → ℕ → List ℕ → Answer ℤ
 utilityForModelOf p q id bank = unless (bankFaults bank) (utilityIn p q id (listedOf bank))
-
--- N8. Reading a record: the place is beyond the bank
-unfoldable pub readingFaults : List ℕ → ℕ → Faults
-readingFaults bank place = bankFaults bank ++ below place (records bank) [] (fault 8 ∷ [])
-
-unfoldable pub readingOf : List ℕ → ℕ → Fault
-readingOf bank place = firstFault (readingFaults bank place)
-
--- B5. The very part that reading hands back, empty where the call beside it answers a number
-
-abbrev pub partUnless : Faults → List ℕ → List ℕ
-partUnless [] part = part
-partUnless (f ∷ fs) part = []
-
-unfoldable pub recordOf : List ℕ → ℕ → List ℕ
-recordOf bank place = partUnless (readingFaults bank place) (recordPart bank place)

@@ -4,7 +4,7 @@ use mathlib.Core.List.{List, [], _∷_, _++_}
 use lib.ListN.{length}
 use mir.Syntax.{w64}
 use mir.Val.{ofZ}
-use Rattle.rules.specs.Choice.{equal}
+use Rattle.rules.specs.Choice.{below}
 use Rattle.rules.specs.Bytes.{Field, field, packed, filled}
 use Rattle.rules.specs.Records.{Listed, listedOf}
 use Rattle.rules.specs.Numbers.{Faults, bankFaults, roomFaults, Answer, answered, unless, Decision}
@@ -52,7 +52,7 @@ explained (j ∷ js) = explanationRecord j ++ explained js
 
 -- D27. None where the request is stopped
 unfoldable pub explanationOf : PolicySnapshot → KernelInput → List Listed → List ℕ
-explanationOf p q ls = equal (stoppedBy p q) 0 (explained (judged p q ls)) []
+explanationOf p q ls = below 0 (stoppedBy p q) [] (explained (judged p q ls))
 
 -- N4. `explain`: 4 only where this answer needs more room
 unfoldable pub explainFaults : PolicySnapshot → KernelInput → List ℕ → List ℕ → Faults

@@ -1,6 +1,6 @@
 -- Document 01, "Boundaries": the levers, what it is to win with one, and the list of those found.
 use Prim.Native.Nat.{ℕ, _+_, _-_}
-use mathlib.Core.Bool.{Bool, true, false}
+use mathlib.Core.Bool.{Bool, false, not, _&&_}
 use mathlib.Core.List.{List, [], _∷_, _++_}
 use mathlib.Core.Option.{Option, none, some}
 use lib.Dec.{eqb}
@@ -9,7 +9,7 @@ use lib.IntN.{pos}
 use Rattle.rules.specs.Limits.{ppm, noPlace}
 use Rattle.rules.specs.Choice.{equal}
 use Rattle.rules.specs.Records.{Listed, listed}
-use Rattle.rules.specs.Numbers.{Fault, noFault, Decision, Entry, Boundary}
+use Rattle.rules.specs.Numbers.{Fault, noFault, Decision, isRejection, Entry, Boundary}
 use Rattle.rules.specs.Price.{scaledPrice}
 use Rattle.rules.specs.Decide.{decisionOf}
 use Rattle.rules.specs.declared.records.KernelModel.{KernelModel}
@@ -61,7 +61,7 @@ abbrev pub withEnabled : ℕ → KernelModel → KernelModel
 withEnabled v m =
     moved m (m .«quality_bps») (m .«risk_ceiling_bps») v (m .«p95_latency_ms») (m .«input_cost_microunits_per_million_tokens») (m .«output_cost_microunits_per_million_tokens»)
 
--- W10. A model with the lever of a number at a value
+-- W10. A model with the lever of a number at a value; any number but 1 to 4 is lever 5
 unfoldable pub leverAt : ℕ → ℕ → KernelModel → KernelModel
 leverAt lever v m =
     equal lever 1 (withQuality v m)
@@ -71,7 +71,7 @@ leverAt lever v m =
 
 -- W2. A decision selects an id where it is no rejection and chose that id
 unfoldable pub selects : ℕ → Decision → Bool
-selects id d = equal (d .action) 3 false (eqb (d .model) id)
+selects id d = not (isRejection d) && eqb (d .model) id
 
 -- R1. The list with another model in the first listed record with an id, its place kept
 abbrev pub orStandIn : ℕ → KernelModel → Listed → List Listed → List Listed → List Listed

@@ -5,6 +5,7 @@ pub mod Bytes
 pub mod Wide
 pub mod Records
 pub mod Numbers
+pub mod Listing
 pub mod Gates
 pub mod Price
 pub mod Utility

@@ -3,12 +3,12 @@ use Prim.Native.Nat.{ℕ}
 use mathlib.Core.Bool.{false}
 use mathlib.Core.List.{List}
 use mathlib.Core.Option.{Option, none, some}
-use lib.Dec.{eqb}
 use Rattle.rules.specs.Limits.{maxU32, ppm, maxPriceScale}
 use Rattle.rules.specs.Choice.{pick}
 use Rattle.rules.specs.Records.{Listed, listedOf}
-use Rattle.rules.specs.Numbers.{fault, bankFaults, Decision, Boundary}
-use Rattle.rules.specs.Decide.{decisionOf, firstListed}
+use Rattle.rules.specs.Numbers.{fault, bankFaults, Decision, isRejection, Boundary}
+use Rattle.rules.specs.Decide.{decisionOf}
+use Rattle.rules.specs.Listing.{firstListed}
 use Rattle.rules.specs.Halving.{Lowest, Highest, searchOf, searchAfterFarEnd}
 use Rattle.rules.specs.Levers.{Question, wins, Sought, plain, priced, andThen, boundaryOf, boundaryRefused, boundaryUnless}
 use Rattle.rules.specs.declared.records.KernelInput.{KernelInput}
@@ -33,7 +33,7 @@ marginIfListed p q ls d (some l) =
 -- N6. A rejection has no margin
 unfoldable pub marginFor : PolicySnapshot → KernelInput → List Listed → Decision → Boundary
 marginFor p q ls d =
-    pick (eqb (d .action) 3)
+    pick (isRejection d)
     (λ _. boundaryRefused (fault 6))
     (λ _. marginIfListed p q ls d (firstListed (d .model) ls))
 

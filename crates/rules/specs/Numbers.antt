@@ -1,12 +1,14 @@
 -- Document 01, "Numbers handed back": what each case of an enum is called there.
-use Prim.Native.Nat.{ℕ, _/_, _%_}
+use Prim.Native.Nat.{ℕ, _%_}
 use mathlib.Core.Bool.{Bool}
 use mathlib.Core.List.{List, [], _∷_, _++_, map}
 use mathlib.Core.Option.{Option, none, some}
+use lib.Dec.{eqb}
 use lib.IntN.{ℤ, pos}
 use lib.ListN.{length}
 use Rattle.rules.specs.Limits.{recordBytes, maxCatalogModels}
 use Rattle.rules.specs.Choice.{below, equal}
+use Rattle.rules.specs.Records.{recordsIn}
 use Rattle.rules.specs.Wide.{val}
 use Rattle.rules.specs.declared.refusal.Refusal.{Refusal}
 use Rattle.rules.specs.declared.refusal.Refusal.the-variants as refusal
@@ -32,7 +34,6 @@ use Rattle.rules.specs.declared.verdict.UtilityTerms.{UtilityTerms}
 use Rattle.rules.specs.declared.boundary.BoundaryCost.{BoundaryCost}
 use Rattle.rules.specs.declared.boundary.BoundaryCost.the-variants as cost
 use Rattle.rules.specs.declared.boundary.Requirement.{Requirement}
-use Rattle.rules.specs.declared.boundary.Levers.{Levers}
 use Rattle.rules.specs.declared.boundary.Boundaries.{Boundaries}
 
 -- ---- refusals
@@ -96,7 +97,7 @@ Faults = List Fault
 -- N1, N2. A bank whose length is no multiple of a record's; one with too many records
 unfoldable pub lengthFaults : ℕ → Faults
 lengthFaults n =
-    equal (n % recordBytes) 0 [] (fault 1 ∷ []) ++ below maxCatalogModels (n / recordBytes) (fault 2 ∷ []) []
+    equal (n % recordBytes) 0 [] (fault 1 ∷ []) ++ below maxCatalogModels (recordsIn n) (fault 2 ∷ []) []
 
 abbrev pub bankFaults : List ℕ → Faults
 bankFaults bank = lengthFaults (length bank)
@@ -180,6 +181,10 @@ toldDecision d =
       catalogEpoch = d .«catalog_epoch»;
     }
 
+-- D25. A decision that chose nothing
+abbrev pub isRejection : Decision → Bool
+isRejection d = eqb (d .action) 3
+
 abbrev pub toldPrescribed : Prescribed → Answer Decision
 toldPrescribed (prescribed.Refused r) = refused (toldRefusal r)
 toldPrescribed (prescribed.Decided d) = answered (toldDecision d)
@@ -213,6 +218,10 @@ pub record Verdict : Type 0 where
   pub cost : ℕ
   pub latency : ℕ
   pub utility : ℤ
+
+-- B6. Verdict 4 is eligible: the first where it is, else the second
+abbrev pub whereEligible : {A : Type 0} → Verdict → A → A → A
+whereEligible v x y = equal (v .verdict) 4 x y
 
 abbrev pub toldTerms : ℕ → UtilityTerms → Verdict
 toldTerms n t =

@@ -3,7 +3,8 @@ use Prim.Native.Nat.{ℕ}
 use mathlib.Core.Bool.{Bool, false, cond}
 use mathlib.Core.List.{List, [], _∷_, foldl}
 use lib.IntN.{ℤ}
-use Rattle.rules.specs.Choice.{equal, lower, higher}
+use Rattle.rules.specs.Choice.{lower, higher}
+use Rattle.rules.specs.Numbers.{whereEligible}
 use Rattle.rules.specs.Verdict.{Judged}
 
 -- D22. What a model is ranked by
@@ -42,9 +43,9 @@ insert (x ∷ xs) c = cond (better c x) (c ∷ x ∷ xs) (x ∷ insert xs c)
 abbrev pub sorted : List Candidate → List Candidate
 sorted cs = foldl insert [] cs
 
--- A record with verdict 4 is kept, any other one left out
+-- An eligible record is kept, any other one left out
 abbrev pub keep : Judged → List Candidate → List Candidate
-keep j cs = equal (j .verdict .verdict) 4 (candidateOf j ∷ cs) cs
+keep j cs = whereEligible (j .verdict) (candidateOf j ∷ cs) cs
 
 -- D22. The eligible models, as they are listed
 abbrev pub eligibles : List Judged → List Candidate

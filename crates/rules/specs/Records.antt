@@ -156,9 +156,9 @@ policyOf s = policyFrom (valuesOf policyLayout s)
 unfoldable pub policyInBytes : PolicySnapshot → List ℕ
 policyInBytes p = packed policyLayout (policyNumbers p)
 
--- B4. How many records a bank has, the bytes of the one at a place, and the model that they say
-abbrev pub records : List ℕ → ℕ
-records bank = length bank / recordBytes
+-- B4. How many records so many bytes hold; of a bank, the bytes of the record at a place, and the model that they say
+abbrev pub recordsIn : ℕ → ℕ
+recordsIn n = n / recordBytes
 
 abbrev pub recordPart : List ℕ → ℕ → List ℕ
 recordPart bank place = take recordBytes (drop (recordBytes * place) bank)
@@ -180,4 +180,4 @@ listedFrom bank place zero = []
 listedFrom bank place (suc n) = listed place (modelAt bank place) ∷ listedFrom bank (suc place) n
 
 unfoldable pub listedOf : List ℕ → List Listed
-listedOf bank = listedFrom bank 0 (records bank)
+listedOf bank = listedFrom bank 0 (recordsIn (length bank))

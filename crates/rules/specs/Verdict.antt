@@ -4,7 +4,7 @@ use mathlib.Core.Bool.{cond}
 use mathlib.Core.List.{List, map}
 use lib.IntN.{pos}
 use lib.Signed.{leZ}
-use Rattle.rules.specs.Choice.{below, equal}
+use Rattle.rules.specs.Choice.{below}
 use Rattle.rules.specs.Records.{Listed}
 use Rattle.rules.specs.Numbers.{Verdict, twoNumbers}
 use Rattle.rules.specs.Gates.{gateOf, detailOf}
@@ -40,12 +40,11 @@ withTerms p q m n =
 unfoldable pub pricedOf : PolicySnapshot → KernelInput → KernelModel → Verdict
 pricedOf p q m = withTerms p q m (cond (leZ (utilityOf p m q) (pos 0)) 3 4)
 
--- D3, D14, D19. The gates, then the budget, then the utility
+-- D3, D14, D19. A gate that fails, then the budget, then the utility
 unfoldable pub verdictOf : PolicySnapshot → KernelInput → KernelModel → Verdict
 verdictOf p q m =
-    equal (gateOf m q) 0
+    below 0 (gateOf m q) (rejected (gateOf m q) (detailOf m q (gateOf m q)))
     (below (q .«budget_limit_microunits») (costOf m q) (overBudget (costOf m q) (q .«budget_limit_microunits»)) (pricedOf p q m))
-    (rejected (gateOf m q) (detailOf m q (gateOf m q)))
 
 -- A listed record with what it is told
 pub record Judged : Type 0 where

@@ -1,5 +1,5 @@
 -- Document 01, "Boundaries": what would win.
-use Prim.Native.Nat.{ℕ, _+_}
+use Prim.Native.Nat.{ℕ}
 use mathlib.Core.Bool.{Bool, true, false}
 use mathlib.Core.List.{List, [], _∷_}
 use mathlib.Core.Option.{Option, none, some}
@@ -8,7 +8,8 @@ use Rattle.rules.specs.Limits.{maxBps, ppm}
 use Rattle.rules.specs.Choice.{pick}
 use Rattle.rules.specs.Records.{Listed, listedOf}
 use Rattle.rules.specs.Numbers.{fault, bankFaults, Decision, Boundary}
-use Rattle.rules.specs.Decide.{stoppedBy, decisionOf, firstListed}
+use Rattle.rules.specs.Decide.{stoppedBy, decisionOf}
+use Rattle.rules.specs.Listing.{firstListed}
 use Rattle.rules.specs.Halving.{Lowest, Highest, searchOf}
 use Rattle.rules.specs.Levers.{Question, wins, selects, Sought, entry, plain, priced, andThen, noSearch, boundaryOf, boundaryRefused, boundaryUnless}
 use Rattle.rules.specs.declared.records.KernelInput.{KernelInput}
