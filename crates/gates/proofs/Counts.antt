@@ -1,0 +1,99 @@
+-- The nine counts, record by record, and their sum. Assumes nothing.
+use Prim.Native.Nat.{ℕ, zero, suc, _+_, _-_, _<_, _≤_}
+use native.Mathlib.Omega.{arith}
+use mathlib.Core.Path.{_≡_, refl, ap, _∙_}
+use mathlib.Core.Bool.{Bool, true, false, cond}
+use mathlib.Core.List.{List, [], _∷_, _++_}
+use lib.Dec.{eqb}
+use lib.ListN.{length, length-map}
+use Rattle.rules.specs.Choice.{equal}
+use Rattle.rules.specs.Numbers.{Verdict}
+use Rattle.rules.specs.Records.{Listed}
+use Rattle.rules.specs.Verdict.{Judged, judge, judged, verdictOf}
+use Rattle.rules.specs.Rank.{Candidate, candidateOf, eligibles}
+use Rattle.rules.specs.Count.{gateReason, countedFor, oneMore, tally, countsFrom, reasonsOf, countsOf}
+use Rattle.rules.specs.declared.decision.RejectionHistogram.{RejectionHistogram}
+use Rattle.rules.specs.declared.records.KernelInput.{KernelInput}
+use Rattle.rules.specs.declared.records.PolicySnapshot.{PolicySnapshot}
+use Rattle.gates.specs.Raise.{raisedBy, total}
+use Rattle.gates.proofs.Reasons.{reason-counted}
+use Rattle.gates.proofs.Verdicts.{Told, by-gate, by-budget, by-utility, eligible, verdict-told}
+
+-- ---- one record more
+
+swap : (a b : Bool) (n : ℕ) → cond a (cond b (n + 1) n + 1) (cond b (n + 1) n) ≡ cond b (cond a (n + 1) n + 1) (cond a (n + 1) n)
+swap true true n = refl
+swap true false n = refl
+swap false true n = refl
+swap false false n = refl
+
+tally-snoc : (k : ℕ) (rs : List ℕ) (r : ℕ) → tally k (rs ++ r ∷ []) ≡ oneMore k r (tally k rs)
+unfolding equal
+tally-snoc k [] r = refl
+tally-snoc k (x ∷ rs) r = rw (tally-snoc k rs r) (swap (eqb k x) (eqb k r) (tally k rs))
+
+-- THE LAST RECORD'S REASON RAISES ITS COUNT, and no other
+pub counts-snoc : (rs : List ℕ) (r : ℕ) → countsFrom (rs ++ r ∷ []) ≡ raisedBy (countsFrom rs) r
+unfolding countsFrom raisedBy
+counts-snoc rs r = simp tally-snoc
+
+-- and so does the first's
+pub counts-cons : (r : ℕ) (rs : List ℕ) → countsFrom (r ∷ rs) ≡ raisedBy (countsFrom rs) r
+unfolding countsFrom raisedBy
+counts-cons r rs = refl
+
+reasons-snoc : (js : List Judged) (j : Judged) → reasonsOf (js ++ j ∷ []) ≡ reasonsOf js ++ countedFor (j .verdict) ∷ []
+reasons-snoc [] j = refl
+reasons-snoc (x ∷ js) j = ap (λ rs. countedFor (x .verdict) ∷ rs) (reasons-snoc js j)
+
+pub judged-snoc : (js : List Judged) (j : Judged) → countsOf (js ++ j ∷ []) ≡ raisedBy (countsOf js) (countedFor (j .verdict))
+unfolding countsOf
+judged-snoc js j = rw (reasons-snoc js j) (counts-snoc (reasonsOf js) (countedFor (j .verdict)))
+
+-- ---- the sum
+
+-- No reason raises nothing
+pub raised-none : (c : RejectionHistogram) → raisedBy c 0 ≡ c
+unfolding raisedBy equal
+raised-none c = refl
+
+pub total-none : (c : RejectionHistogram) → total (raisedBy c 0) ≡ total c
+total-none c = rw (raised-none c)
+
+total-at : (c : RejectionHistogram) (k : ℕ) → k < 9 → total (raisedBy c (102 + k)) ≡ total c + 1
+unfolding raisedBy equal
+total-at c zero h = omega arith
+total-at c (suc zero) h = omega arith
+total-at c (suc (suc zero)) h = omega arith
+total-at c (suc (suc (suc zero))) h = omega arith
+total-at c (suc (suc (suc (suc zero)))) h = omega arith
+total-at c (suc (suc (suc (suc (suc zero))))) h = omega arith
+total-at c (suc (suc (suc (suc (suc (suc zero)))))) h = omega arith
+total-at c (suc (suc (suc (suc (suc (suc (suc zero))))))) h = omega arith
+total-at c (suc (suc (suc (suc (suc (suc (suc (suc zero)))))))) h = omega arith
+total-at c (suc (suc (suc (suc (suc (suc (suc (suc (suc k))))))))) h = absurd (omega arith)
+
+-- EACH OF THE NINE REASONS, 102 TO 110, RAISES THE SUM BY ONE
+pub total-raised : (c : RejectionHistogram) (r : ℕ) → 102 ≤ r → r ≤ 110 → total (raisedBy c r) ≡ total c + 1
+total-raised c r lo hi = let e : r ≡ 102 + (r - 102) = omega arith in rw e (total-at c (r - 102) (omega arith))
+
+-- One record more is one more in the counts, or one more that is eligible
+one-more : (c : RejectionHistogram) (x : Candidate) (xs : List Candidate) (v : Verdict) → Told v → total (raisedBy c (countedFor v)) + length (equal (v .verdict) 4 (x ∷ xs) xs) ≡ suc (total c + length xs)
+unfolding countedFor equal
+one-more c x xs v (by-gate e lo hi) = let b = reason-counted (v .gate) lo hi in rw e (omega (arith, total-raised c (gateReason (v .gate)) (b .0) (b .1)))
+one-more c x xs v (by-budget e) = rw e (omega (arith, total-at c 6 (omega arith)))
+one-more c x xs v (by-utility e) = rw e (omega (arith, total-at c 7 (omega arith)))
+one-more c x xs v (eligible e) = rw e (omega (arith, total-none c))
+
+-- THE NINE COUNTS AND THE ELIGIBLE MODELS TOGETHER ARE THE RECORDS, for every list of records
+pub counts-sum : (p : PolicySnapshot) (q : KernelInput) (ls : List Listed) → total (countsOf (judged p q ls)) + length (eligibles (judged p q ls)) ≡ length (judged p q ls)
+unfolding countsOf countsFrom raisedBy
+counts-sum p q [] = refl
+counts-sum p q (l ∷ ls) =
+    let js = judged p q ls in
+    one-more (countsFrom (reasonsOf js)) (candidateOf (judge p q l)) (eligibles js) (verdictOf p q (l .model)) (verdict-told p q (l .model))
+    ∙ ap suc (counts-sum p q ls)
+
+-- so they are at most the records
+pub counts-low : (p : PolicySnapshot) (q : KernelInput) (ls : List Listed) → total (countsOf (judged p q ls)) ≤ length ls
+counts-low p q ls = omega (arith, counts-sum p q ls, length-map ls (judge p q))

@@ -1,0 +1,39 @@
+-- The reason that each gate counts for. Assumes nothing.
+use Prim.Native.Nat.{ℕ, zero, suc, _<_, _≤_}
+use native.Mathlib.Nat.{eq-or-lt-of-le}
+use native.Mathlib.Omega.{arith}
+use mathlib.Core.Path.{_≡_}
+use mathlib.Core.Logic.{_⊎_, inl, inr, ⊎-elim}
+use mathlib.Core.List.{[], _∷_}
+use lib.ListN.{List·getD-eq-default}
+use Rattle.rules.specs.Count.{gateReason}
+
+-- A number that is at least another and not that one is above it
+pub past : {k n : ℕ} → k ≤ n → (n ≡ k → ⊥) → k < n
+past h not = omega (arith, not)
+
+-- A number that is no gate's has no reason
+pub reason-none : (gate : ℕ) → (gate < 1) ⊎ (8 < gate) → gateReason gate ≡ 0
+unfolding gateReason
+reason-none gate (inl h) = let e : gate ≡ 0 = omega arith in rw e
+reason-none gate (inr h) = List·getD-eq-default (0 ∷ 102 ∷ 103 ∷ 104 ∷ 105 ∷ 106 ∷ 106 ∷ 107 ∷ 110 ∷ []) 0 h
+
+-- Gates 5 and 6 share one
+pub reason-shared : (gate : ℕ) → 4 < gate → gate < 7 → gateReason gate ≡ 106
+unfolding gateReason
+reason-shared gate lo hi =
+    ⊎-elim (λ h. let e : gate ≡ 5 = omega arith in rw e) (λ h. let e : gate ≡ 6 = omega arith in rw e) (eq-or-lt-of-le lo)
+
+-- Every gate's reason is one of the nine, which are the numbers from 102 to 110
+pub reason-counted : (gate : ℕ) → 0 < gate → gate ≤ 8 → (102 ≤ gateReason gate) × (gateReason gate ≤ 110)
+unfolding gateReason
+reason-counted zero lo hi = absurd (omega arith)
+reason-counted (suc zero) lo hi = (omega arith, omega arith)
+reason-counted (suc (suc zero)) lo hi = (omega arith, omega arith)
+reason-counted (suc (suc (suc zero))) lo hi = (omega arith, omega arith)
+reason-counted (suc (suc (suc (suc zero)))) lo hi = (omega arith, omega arith)
+reason-counted (suc (suc (suc (suc (suc zero))))) lo hi = (omega arith, omega arith)
+reason-counted (suc (suc (suc (suc (suc (suc zero)))))) lo hi = (omega arith, omega arith)
+reason-counted (suc (suc (suc (suc (suc (suc (suc zero))))))) lo hi = (omega arith, omega arith)
+reason-counted (suc (suc (suc (suc (suc (suc (suc (suc zero)))))))) lo hi = (omega arith, omega arith)
+reason-counted (suc (suc (suc (suc (suc (suc (suc (suc (suc gate))))))))) lo hi = absurd (omega arith)

@@ -1,0 +1,68 @@
+-- What a verdict can be: 1 with a gate from 1 to 8, 2, 3 or 4. Assumes nothing.
+use Prim.Native.Nat.{ℕ, suc, _+_, _<_, _≤_}
+use native.Mathlib.Nat.{eq-zero-or-pos}
+use native.Mathlib.Omega.{arith}
+use mathlib.Core.Path.{_≡_, refl}
+use mathlib.Core.Logic.{⊎-elim}
+use mathlib.Core.Bool.{Bool, true, false, cond}
+use mathlib.Core.List.{List, [], _∷_}
+use lib.Dec.{ltb}
+use lib.IntN.{pos}
+use lib.ListN.{length}
+use lib.Signed.{leZ}
+use Rattle.rules.specs.Choice.{below}
+use Rattle.rules.specs.Numbers.{Verdict}
+use Rattle.rules.specs.Gates.{firstOf, isOff, isPoor, isSlow, isUnable, isUnknown, isBarred, isElsewhere, isRisky, gateOf}
+use Rattle.rules.specs.Price.{costOf}
+use Rattle.rules.specs.Utility.{utilityOf}
+use Rattle.rules.specs.Verdict.{overBudget, withTerms, pricedOf, verdictOf}
+use Rattle.rules.specs.declared.records.KernelModel.{KernelModel}
+use Rattle.rules.specs.declared.records.KernelInput.{KernelInput}
+use Rattle.rules.specs.declared.records.PolicySnapshot.{PolicySnapshot}
+use Rattle.rules.proofs.Choices.{below-yes, below-no}
+
+-- The first of some tests is one of them
+first-high : (n : ℕ) (bs : List Bool) → firstOf (suc n) bs ≤ n + length bs
+first-high n [] = omega arith
+first-high n (true ∷ bs) = omega arith
+first-high n (false ∷ bs) = omega (arith, first-high (suc n) bs)
+
+-- There is no gate above 8
+pub gate-high : (m : KernelModel) (q : KernelInput) → gateOf m q ≤ 8
+unfolding gateOf
+gate-high m q =
+    first-high 0
+    (isOff m q ∷ isPoor m q ∷ isSlow m q ∷ isUnable m q ∷ isUnknown m q ∷ isBarred m q ∷ isElsewhere m q ∷ isRisky m q ∷ [])
+
+-- The four kinds of a verdict, by its numbers
+pub data Told (v : Verdict) : Type 0 where
+  by-gate : v .verdict ≡ 1 → 0 < v .gate → v .gate ≤ 8 → Told v
+  by-budget : v .verdict ≡ 2 → Told v
+  by-utility : v .verdict ≡ 3 → Told v
+  eligible : v .verdict ≡ 4 → Told v
+
+either : (b : Bool) (u v : Verdict) → Told u → Told v → Told (cond b u v)
+either true u v t s = t
+either false u v t s = s
+
+-- Every verdict that a record is told is of one of them
+module _ (p : PolicySnapshot) (q : KernelInput) (m : KernelModel) where
+  told-terms : (b : Bool) → Told (withTerms p q m (cond b 3 4))
+  told-terms true = by-utility refl
+  told-terms false = eligible refl
+
+  told-priced : Told (pricedOf p q m)
+  unfolding pricedOf
+  told-priced = told-terms (leZ (utilityOf p m q) (pos 0))
+
+  told-cost : Told (below (q .«budget_limit_microunits») (costOf m q) (overBudget (costOf m q) (q .«budget_limit_microunits»)) (pricedOf p q m))
+  unfolding below
+  told-cost = either (ltb (q .«budget_limit_microunits») (costOf m q)) _ _ (by-budget refl) told-priced
+
+  pub verdict-told : Told (verdictOf p q m)
+  unfolding verdictOf
+  verdict-told =
+      ⊎-elim
+      (λ (z : gateOf m q ≡ 0). let h : gateOf m q ≤ 0 = omega arith in rw (below-no 0 (gateOf m q) _ _ h) told-cost)
+      (λ (h : 0 < gateOf m q). rw (below-yes 0 (gateOf m q) _ _ h) (by-gate refl h (gate-high m q)))
+      (eq-zero-or-pos (gateOf m q))

@@ -1,0 +1,14 @@
+-- `gates::raised_for_budget` meets its contract. Assumes nothing.
+use mathlib.Core.Path.{refl}
+use Rattle.rules.specs.Choice.{equal}
+use Rattle.gates.specs.Raise.{raisedBy}
+use borrow.Author.Needs.{needs}
+use Rattle.gates.proofs.raised_for_budget.Statement.{statement}
+use Rattle.gates.proofs.raised_for_budget.Tie as tie
+
+returns : tie.Need-returns
+unfolding raisedBy equal
+returns c = refl
+
+pub raised-for-budget-spec : {M : Type 1} → statement M
+raised-for-budget-spec = tie.close (tie.spec (λ c. search needs) returns)
