@@ -1,0 +1,6 @@
+-- Theorems for a reader, each under the demand that it serves, and the laws that they rest on.
+pub mod Laws
+pub mod Costs
+pub mod Paths
+pub mod Widths
+pub mod PathsExample

@@ -1,0 +1,129 @@
+-- THE FAST AND THE SLOW PATHS AGREE: whichever of its two ways of computing the Rust takes, cost, terms and utility are those of the rules
+-- (D21). Assumed: a model is one of the catalogue, and fields are within the Rust's types. `Widths` adds that i128 holds the slow numbers.
+use Prim.Native.Nat.{ℕ, min, _*_, _/_, _^_, _<_}
+use mathlib.Core.Path.{_≡_, refl, sym, ap, _∙_}
+use mathlib.Core.Bool.{true}
+use mathlib.Core.List.{List, List·Memᴰ}
+use mathlib.Core.Option.{some, bind-eq-some-iff}
+use native.Mathlib.Nat.{lt-of-le-of-lt, mul-le-mul-left, mul-le-mul-right}
+use native.Mathlib.Omega.{arith}
+use Rattle.rules.specs.Limits.{scaledBasisPoints, maxU64}
+use Rattle.rules.specs.Price.{costOf}
+use Rattle.rules.specs.Utility.{orZero, shareOf, qualityTermOf, riskTermOf, latencyTermOf, exactUtilityOf, utilityOf}
+use Rattle.rules.specs.declared.records.KernelModel.{KernelModel}
+use Rattle.rules.specs.declared.records.KernelInput.{KernelInput}
+use Rattle.rules.specs.declared.records.PolicySnapshot.{PolicySnapshot}
+use Rattle.demands.specs.Widths.{ModelTyped, RequestTyped}
+use Rattle.demands.specs.Paths.{maxQuality, modelCostFast, modelCostReference, allCostsFit, scaledTermReference, scaledTermExact, qualityPrefix, qualityTermFast, qualityTermReference, allLatenciesFit, latencyTermFast, latencyTermReference, pricingCost, pricingQuality, pricingRisk, pricingLatency, pricingUtility, referenceUtility}
+use Rattle.demands.proofs.Laws.{at-most-largest, wrapping-mul, checked-some, is-some, kept, either-way, by-test}
+use Rattle.demands.proofs.Costs.{costs-fit, sum-fast, sum-reference}
+
+-- ---- the slow ways are the rules, always
+
+-- Demand 2, cost. The slow cost is the rule's cost
+pub cost-reference : (m : KernelModel) (q : KernelInput) → ModelTyped m → RequestTyped q → modelCostReference m q ≡ costOf m q
+unfolding modelCostReference costOf
+cost-reference m q mt qt = ap (min maxU64) (sum-reference _ _ _ _ (qt .inputTokens) (mt .inputPrice) (qt .outputTokens) (mt .outputPrice))
+
+-- Demand 2, terms. The slow share of a value is the rule's
+pub scaled-reference : (value first second : ℕ) → scaledTermReference value first second ≡ shareOf value first second
+unfolding scaledTermReference shareOf
+scaled-reference value first second = refl
+
+-- Demand 2, terms. The slow quality term is the rule's
+pub quality-reference : (m : KernelModel) (q : KernelInput) → qualityTermReference m q ≡ qualityTermOf m q
+unfolding qualityTermReference qualityTermOf
+quality-reference m q = scaled-reference _ _ _
+
+-- Demand 2, terms. The slow latency term is the rule's
+pub latency-reference : (p : PolicySnapshot) (m : KernelModel) → latencyTermReference p m ≡ latencyTermOf p m
+unfolding latencyTermReference latencyTermOf
+latency-reference p m = refl
+
+-- ---- the fast share
+
+-- Demand 2, terms. The share by checked products is the slow one, always
+pub scaled-paths : (value first second : ℕ) → scaledTermExact value first second ≡ scaledTermReference value first second
+unfolding scaledTermExact scaledTermReference
+scaled-paths value first second = either-way _ _ _ λ n e.
+    let (k, one, both) = bind-eq-some-iff _ _ .0 e in
+    ap (λ i. i / scaledBasisPoints) (checked-some (k * second) n both .1 ∙ ap (λ i. i * second) (checked-some (value * first) k one .1))
+
+-- a prefix that is taken is V * confidence, and 64 bits hold it times the highest quality
+prefix-fits : (ms : List KernelModel) (q : KernelInput) (prefix : ℕ) → qualityPrefix ms q ≡ some prefix → (prefix ≡ orZero (q .«business_value_microunits») * q .«confidence_bps») × (prefix * maxQuality ms < 2 ^ 64)
+unfolding qualityPrefix
+prefix-fits ms q prefix e =
+    let (k, product, taken) = bind-eq-some-iff _ _ .0 e in
+    let (passed, same) = kept _ k prefix taken in
+    let (n, fits) = is-some _ passed in
+    (sym same ∙ checked-some _ k product .1, rw same at (checked-some _ n fits .0))
+
+-- ---- the fast ways, for every model of a catalogue
+
+module _ (ms : List KernelModel) (m : KernelModel) (q : KernelInput) (among : List·Memᴰ m ms) where
+  -- Demand 2, cost. Where the test over the catalogue's maxima passes, the fast cost is the rule's
+  pub cost-fast : allCostsFit ms q ≡ true → modelCostFast m q ≡ costOf m q
+  unfolding modelCostFast costOf
+  cost-fast fit =
+      let input = mul-le-mul-left (q .«input_tokens») (at-most-largest (λ m. m .«input_cost_microunits_per_million_tokens») among) in
+      let output = mul-le-mul-left (q .«output_tokens») (at-most-largest (λ m. m .«output_cost_microunits_per_million_tokens») among) in
+      sum-fast _ _ _ _ (omega (arith, costs-fit ms q fit))
+
+  -- Demand 2, cost. So the fast cost is the slow one
+  pub cost-paths : ModelTyped m → RequestTyped q → allCostsFit ms q ≡ true → modelCostFast m q ≡ modelCostReference m q
+  cost-paths mt qt fit = cost-fast fit ∙ sym (cost-reference m q mt qt)
+
+  -- Demand 2, terms. Where a prefix is taken, the fast quality term is the rule's
+  pub quality-fast : (prefix : ℕ) → qualityPrefix ms q ≡ some prefix → qualityTermFast prefix m ≡ qualityTermOf m q
+  unfolding qualityTermFast qualityTermOf shareOf
+  quality-fast prefix taken =
+      let (exact, fits) = prefix-fits ms q prefix taken in
+      let most = mul-le-mul-left prefix (at-most-largest (λ m. m .«quality_bps») among) in
+      rw (wrapping-mul prefix (m .«quality_bps») (lt-of-le-of-lt most fits), exact)
+
+  -- Demand 2, terms. So the fast quality term is the slow one
+  pub quality-paths : (prefix : ℕ) → qualityPrefix ms q ≡ some prefix → qualityTermFast prefix m ≡ qualityTermReference m q
+  quality-paths prefix taken = quality-fast prefix taken ∙ sym (quality-reference m q)
+
+  -- by the way that the test chooses
+  cost-way : ModelTyped m → RequestTyped q → pricingCost ms m q ≡ costOf m q
+  unfolding pricingCost
+  cost-way mt qt = by-test _ _ _ (cost-paths mt qt) ∙ cost-reference m q mt qt
+
+  quality-way : pricingQuality ms m q ≡ qualityTermOf m q
+  unfolding pricingQuality
+  quality-way = either-way _ _ _ quality-paths ∙ quality-reference m q
+
+module _ (p : PolicySnapshot) (ms : List KernelModel) (m : KernelModel) (among : List·Memᴰ m ms) where
+  -- Demand 2, terms. Where the highest latency's term fits, the fast latency term is the rule's
+  pub latency-fast : allLatenciesFit p ms ≡ true → latencyTermFast p m ≡ latencyTermOf p m
+  unfolding latencyTermFast latencyTermOf allLatenciesFit
+  latency-fast fit =
+      let (n, e) = is-some _ fit in
+      let most = mul-le-mul-right (p .«latency_penalty_microunits_per_ms») (at-most-largest (λ m. m .«p95_latency_ms») among) in
+      wrapping-mul _ _ (lt-of-le-of-lt most (checked-some _ n e .0))
+
+  -- Demand 2, terms. So the fast latency term is the slow one
+  pub latency-paths : allLatenciesFit p ms ≡ true → latencyTermFast p m ≡ latencyTermReference p m
+  latency-paths fit = latency-fast fit ∙ sym (latency-reference p m)
+
+  latency-way : pricingLatency p ms m ≡ latencyTermOf p m
+  unfolding pricingLatency
+  latency-way = by-test _ _ _ latency-paths ∙ latency-reference p m
+
+risk-way : (p : PolicySnapshot) (q : KernelInput) → pricingRisk p q ≡ riskTermOf p q
+unfolding pricingRisk riskTermOf
+risk-way p q = scaled-paths _ _ _ ∙ scaled-reference _ _ _
+
+-- ---- the utility
+
+module _ (p : PolicySnapshot) (m : KernelModel) (q : KernelInput) (mt : ModelTyped m) (qt : RequestTyped q) where
+  -- Demand 2, utility. For every model of a catalogue, `Pricing` computes the rule's utility, whichever way each test chooses
+  pub utility-paths : (ms : List KernelModel) → List·Memᴰ m ms → pricingUtility p ms m q ≡ utilityOf p m q
+  unfolding pricingUtility utilityOf exactUtilityOf
+  utility-paths ms among = rw (quality-way ms m q among, risk-way p q, cost-way ms m q among mt qt, latency-way p ms m among)
+
+  -- Demand 2, utility. And so do the slow ways alone
+  pub utility-reference : referenceUtility p m q ≡ utilityOf p m q
+  unfolding referenceUtility utilityOf exactUtilityOf riskTermOf
+  utility-reference = rw (quality-reference m q, scaled-reference, cost-reference m q mt qt, latency-reference p m)

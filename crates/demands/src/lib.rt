@@ -1,0 +1,1 @@
+// What follows from the rules, for a reader. There is no code here: definitions are in specs/, theorems in proofs/.
