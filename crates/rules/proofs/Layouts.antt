@@ -1,4 +1,4 @@
--- Every layout is packed: each field starts where the one before it ends, and the last ends at the record's size. Assumes nothing.
+-- Every layout is packed: each field starts where the one before it ends, and together they have the record's size. Assumes nothing.
 use Prim.Native.Nat.{ℕ, _+_}
 use mathlib.Core.Path.{_≡_, refl}
 use mathlib.Core.List.{List, [], _∷_}
@@ -7,19 +7,28 @@ use Rattle.rules.specs.Bytes.{Field}
 use Rattle.rules.specs.Records.{modelLayout, requestLayout, policyLayout}
 use Rattle.rules.specs.Explain.{explanationLayout}
 
--- fields without a gap, from one offset to another
-abbrev pub Gapless : ℕ → List Field → ℕ → Type 0
-Gapless at [] end = at ≡ end
-Gapless at (f ∷ fs) end = (f .offset ≡ at) × Gapless (at + f .width) fs end
+-- how many bytes the fields have together
+abbrev pub widths : List Field → ℕ
+widths [] = 0
+widths (f ∷ fs) = f .width + widths fs
 
-pub model-gapless : Gapless 0 modelLayout recordBytes
-model-gapless = (refl, (refl, (refl, (refl, (refl, (refl, (refl, (refl, (refl, (refl, refl))))))))))
+-- fields without a gap, from a position on
+abbrev pub Tiled : ℕ → List Field → Type 0
+Tiled at [] = Unit {0}
+Tiled at (f ∷ fs) = (f .offset ≡ at) × Tiled (at + f .width) fs
 
-pub request-gapless : Gapless 0 requestLayout requestBytes
-request-gapless = (refl, (refl, (refl, (refl, (refl, (refl, (refl, (refl, (refl, (refl, (refl, (refl, (refl, refl)))))))))))))
+-- a layout of so many bytes
+abbrev pub Packed : List Field → ℕ → Type 0
+Packed layout size = Tiled 0 layout × (widths layout ≡ size)
 
-pub policy-gapless : Gapless 0 policyLayout policyBytes
-policy-gapless = (refl, (refl, (refl, (refl, (refl, (refl, refl))))))
+pub model-packed : Packed modelLayout recordBytes
+model-packed = ((refl, (refl, (refl, (refl, (refl, (refl, (refl, (refl, (refl, (refl, tt)))))))))), refl)
 
-pub explanation-gapless : Gapless 0 explanationLayout explanationBytes
-explanation-gapless = (refl, (refl, (refl, (refl, (refl, (refl, (refl, (refl, (refl, refl)))))))))
+pub request-packed : Packed requestLayout requestBytes
+request-packed = ((refl, (refl, (refl, (refl, (refl, (refl, (refl, (refl, (refl, (refl, (refl, (refl, (refl, tt))))))))))))), refl)
+
+pub policy-packed : Packed policyLayout policyBytes
+policy-packed = ((refl, (refl, (refl, (refl, (refl, (refl, tt)))))), refl)
+
+pub explanation-packed : Packed explanationLayout explanationBytes
+explanation-packed = ((refl, (refl, (refl, (refl, (refl, (refl, (refl, (refl, (refl, tt))))))))), refl)

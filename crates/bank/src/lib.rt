@@ -1,0 +1,176 @@
+// The models, requests and policies that bytes say, the bytes that say them, and the records of a bank.
+// Every layout is packed: each field starts where the one before it ends.
+ghost use mathlib.Core.Path.{_≡_};
+ghost use Prim.Native.Nat.{_+_, _*_, _≤_};
+ghost use lib.ListN.{length};
+ghost use Rattle.rules.specs.Limits.{recordBytes, requestBytes, policyBytes};
+ghost use Rattle.rules.specs.Records.{modelOf, modelAt, modelBytes, inputOf, inputBytes, policyOf, policyInBytes};
+ghost use Rattle.rules.specs.Numbers.{toldOutcome};
+ghost use Rattle.rules.specs.Listing.{readingOf, recordOf};
+use endian::bits;
+use endian::put16;
+use endian::put32;
+use endian::put64;
+use endian::signed;
+use endian::u16_at;
+use endian::u32_at;
+use endian::u64_at;
+use rules::KernelInput;
+use rules::KernelModel;
+use rules::Outcome;
+use rules::PolicySnapshot;
+use rules::Refusal;
+use rules::limits::MAX_CATALOG_MODELS;
+use rules::limits::POLICY_BYTES;
+use rules::limits::RECORD_BYTES;
+use rules::limits::REQUEST_BYTES;
+
+// The model that a record's bytes say.
+pub fn model_of(s: &[u8]) -> KernelModel
+    requires { ⌜ recordBytes ≤ length (now s) ⌝ }
+    ensures { λ r. ⌜ r ≡ modelOf (now (s .entry)) ⌝ }
+{
+    KernelModel {
+        model_id: u32_at(s, 0),
+        provider_id: u16_at(s, 4),
+        quality_bps: u16_at(s, 6),
+        risk_ceiling_bps: u16_at(s, 8),
+        enabled: s[10],
+        p95_latency_ms: u32_at(s, 11),
+        capabilities: u64_at(s, 15),
+        region_mask: u64_at(s, 23),
+        input_cost_microunits_per_million_tokens: u64_at(s, 31),
+        output_cost_microunits_per_million_tokens: u64_at(s, 39),
+    }
+}
+
+// The model at a place of a bank.
+pub fn model_at(bank: &[u8], place: usize) -> KernelModel
+    requires { ⌜ recordBytes * place + recordBytes ≤ length (now bank) ⌝ }
+    ensures { λ r. ⌜ r ≡ modelAt (now (bank .entry)) place ⌝ }
+{
+    let start = RECORD_BYTES * place;
+    model_of(&bank[start..start + RECORD_BYTES])
+}
+
+// Whether the record at a place can be read, and if not, why: 1, 2 or 8, in this order.
+pub fn reading(bank: &[u8], place: usize) -> Outcome
+    ensures { λ r. ⌜ toldOutcome r ≡ readingOf (now (bank .entry)) place ⌝ }
+{
+    let size = bank.len();
+    if size % RECORD_BYTES != 0 {
+        return Outcome::Refused(Refusal::UnevenBank);
+    }
+    let records = size / RECORD_BYTES;
+    if MAX_CATALOG_MODELS < records {
+        return Outcome::Refused(Refusal::CatalogTooLarge);
+    }
+    if place < records {
+        Outcome::Answered
+    } else {
+        Outcome::Refused(Refusal::BeyondBank)
+    }
+}
+
+// The record at a place, as that very part of the bank; the empty part where `reading` refuses.
+pub fn record_at(bank: &[u8], place: usize) -> &[u8]
+    ensures { λ r. ⌜ now r ≡ recordOf (now (bank .entry)) place ⌝ }
+{
+    match reading(bank, place) {
+        Outcome::Answered => {
+            let at = RECORD_BYTES * place;
+            &bank[at..at + RECORD_BYTES]
+        }
+        _ => &bank[..0],
+    }
+}
+
+// The bytes that say a model.
+pub fn model_bytes(m: KernelModel) -> [u8; RECORD_BYTES]
+    ensures { λ r. ⌜ r ≡ modelBytes m ⌝ }
+{
+    let mut a = [0u8; RECORD_BYTES];
+    put32(&mut a, 0, m.model_id);
+    put16(&mut a, 4, m.provider_id);
+    put16(&mut a, 6, m.quality_bps);
+    put16(&mut a, 8, m.risk_ceiling_bps);
+    a[10] = m.enabled;
+    put32(&mut a, 11, m.p95_latency_ms);
+    put64(&mut a, 15, m.capabilities);
+    put64(&mut a, 23, m.region_mask);
+    put64(&mut a, 31, m.input_cost_microunits_per_million_tokens);
+    put64(&mut a, 39, m.output_cost_microunits_per_million_tokens);
+    a
+}
+
+// The request that a request's bytes say.
+pub fn input_of(s: &[u8]) -> KernelInput
+    requires { ⌜ requestBytes ≤ length (now s) ⌝ }
+    ensures { λ r. ⌜ r ≡ inputOf (now (s .entry)) ⌝ }
+{
+    KernelInput {
+        request_sequence: u64_at(s, 0),
+        requested_model_id: u32_at(s, 8),
+        input_tokens: u32_at(s, 12),
+        output_tokens: u32_at(s, 16),
+        business_value_microunits: signed(u64_at(s, 20)),
+        budget_limit_microunits: u64_at(s, 28),
+        risk_bps: u16_at(s, 36),
+        confidence_bps: u16_at(s, 38),
+        minimum_quality_bps: u16_at(s, 40),
+        max_p95_latency_ms: u32_at(s, 42),
+        required_capabilities: u64_at(s, 46),
+        allowed_provider_mask: u64_at(s, 54),
+        required_region_mask: u64_at(s, 62),
+    }
+}
+
+// The bytes that say a request.
+pub fn input_bytes(q: KernelInput) -> [u8; REQUEST_BYTES]
+    ensures { λ r. ⌜ r ≡ inputBytes q ⌝ }
+{
+    let mut a = [0u8; REQUEST_BYTES];
+    put64(&mut a, 0, q.request_sequence);
+    put32(&mut a, 8, q.requested_model_id);
+    put32(&mut a, 12, q.input_tokens);
+    put32(&mut a, 16, q.output_tokens);
+    put64(&mut a, 20, bits(q.business_value_microunits));
+    put64(&mut a, 28, q.budget_limit_microunits);
+    put16(&mut a, 36, q.risk_bps);
+    put16(&mut a, 38, q.confidence_bps);
+    put16(&mut a, 40, q.minimum_quality_bps);
+    put32(&mut a, 42, q.max_p95_latency_ms);
+    put64(&mut a, 46, q.required_capabilities);
+    put64(&mut a, 54, q.allowed_provider_mask);
+    put64(&mut a, 62, q.required_region_mask);
+    a
+}
+
+// The policy that a policy's bytes say.
+pub fn policy_of(s: &[u8]) -> PolicySnapshot
+    requires { ⌜ policyBytes ≤ length (now s) ⌝ }
+    ensures { λ r. ⌜ r ≡ policyOf (now (s .entry)) ⌝ }
+{
+    PolicySnapshot {
+        policy_epoch: u64_at(s, 0),
+        catalog_epoch: u64_at(s, 8),
+        hard_risk_limit_bps: u16_at(s, 16),
+        minimum_confidence_bps: u16_at(s, 18),
+        risk_penalty_multiplier_bps: u16_at(s, 20),
+        latency_penalty_microunits_per_ms: u64_at(s, 22),
+    }
+}
+
+// The bytes that say a policy.
+pub fn policy_bytes(p: PolicySnapshot) -> [u8; POLICY_BYTES]
+    ensures { λ r. ⌜ r ≡ policyInBytes p ⌝ }
+{
+    let mut a = [0u8; POLICY_BYTES];
+    put64(&mut a, 0, p.policy_epoch);
+    put64(&mut a, 8, p.catalog_epoch);
+    put16(&mut a, 16, p.hard_risk_limit_bps);
+    put16(&mut a, 18, p.minimum_confidence_bps);
+    put16(&mut a, 20, p.risk_penalty_multiplier_bps);
+    put64(&mut a, 22, p.latency_penalty_microunits_per_ms);
+    a
+}
