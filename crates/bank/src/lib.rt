@@ -25,6 +25,13 @@ use rules::limits::POLICY_BYTES;
 use rules::limits::RECORD_BYTES;
 use rules::limits::REQUEST_BYTES;
 
+// A model's bytes, a request's and a policy's.
+pub type ModelBytes = [u8; RECORD_BYTES];
+
+pub type RequestBytes = [u8; REQUEST_BYTES];
+
+pub type PolicyBytes = [u8; POLICY_BYTES];
+
 // The model that a record's bytes say.
 pub fn model_of(s: &[u8]) -> KernelModel
     requires { ⌜ recordBytes ≤ length (now s) ⌝ }
@@ -86,7 +93,7 @@ pub fn record_at(bank: &[u8], place: usize) -> &[u8]
 }
 
 // The bytes that say a model.
-pub fn model_bytes(m: KernelModel) -> [u8; RECORD_BYTES]
+pub fn model_bytes(m: KernelModel) -> ModelBytes
     ensures { λ r. ⌜ r ≡ modelBytes m ⌝ }
 {
     let mut a = [0u8; RECORD_BYTES];
@@ -126,7 +133,7 @@ pub fn input_of(s: &[u8]) -> KernelInput
 }
 
 // The bytes that say a request.
-pub fn input_bytes(q: KernelInput) -> [u8; REQUEST_BYTES]
+pub fn input_bytes(q: KernelInput) -> RequestBytes
     ensures { λ r. ⌜ r ≡ inputBytes q ⌝ }
 {
     let mut a = [0u8; REQUEST_BYTES];
@@ -162,7 +169,7 @@ pub fn policy_of(s: &[u8]) -> PolicySnapshot
 }
 
 // The bytes that say a policy.
-pub fn policy_bytes(p: PolicySnapshot) -> [u8; POLICY_BYTES]
+pub fn policy_bytes(p: PolicySnapshot) -> PolicyBytes
     ensures { λ r. ⌜ r ≡ policyInBytes p ⌝ }
 {
     let mut a = [0u8; POLICY_BYTES];
