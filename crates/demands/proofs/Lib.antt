@@ -4,3 +4,11 @@ pub mod Costs
 pub mod Paths
 pub mod Widths
 pub mod PathsExample
+pub mod Better
+pub mod Lists
+pub mod Ranking
+pub mod Places
+pub mod Decision
+pub mod Keeping
+pub mod Dominant
+pub mod ChoiceExample

@@ -1,0 +1,33 @@
+-- Words for lists and tests, over any elements: what the theorems on ranking say.
+use Prim.Native.Nat.{ℕ, _+_, _<_}
+use mathlib.Core.Path.{_≡_}
+use mathlib.Core.Bool.{Bool, true, false, cond}
+use mathlib.Core.List.{List, [], _∷_}
+
+-- A test that orders strictly: none is before itself, before goes on, and two of which neither is before the other are the same
+pub record Strict {A : Type 0} (before : A → A → Bool) (Same : A → A → Type 0) : Type 0 where
+  pub itself : (a : A) → before a a ≡ false
+  pub goesOn : (a b c : A) → before a b ≡ true → before b c ≡ true → before a c ≡ true
+  pub neither : (a b : A) → before a b ≡ false → before b a ≡ false → Same a b
+
+-- P holds for each of a list
+abbrev pub Each : {A : Type 0} → (A → Type 0) → List A → Type 0
+Each P [] = Unit {0}
+Each P (x ∷ xs) = P x × Each P xs
+
+-- R holds between each and every one after it
+abbrev pub Pairs : {A : Type 0} → (A → A → Type 0) → List A → Type 0
+Pairs R [] = Unit {0}
+Pairs R (x ∷ xs) = Each (R x) xs × Pairs R xs
+
+-- Keys that rise along a list, and keys that are all different
+abbrev pub Rising : {A : Type 0} → (A → ℕ) → List A → Type 0
+Rising key xs = Pairs (λ a b. key a < key b) xs
+
+abbrev pub Different : {A : Type 0} → (A → ℕ) → List A → Type 0
+Different key xs = Pairs (λ a b. key a ≡ key b → ⊥) xs
+
+-- How many of a list pass a test
+abbrev pub many : {A : Type 0} → (A → Bool) → List A → ℕ
+many test [] = 0
+many test (x ∷ xs) = cond (test x) (many test xs + 1) (many test xs)
