@@ -5,7 +5,7 @@ ghost use Prim.Native.Nat.{_<_, _≤_};
 ghost use Rattle.rules.specs.Limits.{maxProviderId};
 ghost use Rattle.rules.specs.Gates.{isSlow, isUnable, isBarred, isElsewhere, gateOf, detail, detailOf};
 ghost use Rattle.rules.specs.Count.{gateReason};
-ghost use Rattle.gates.specs.Raise.{raisedBy, total};
+ghost use Rattle.rules.specs.Count.{raisedBy, total};
 use rules::GateDetail;
 use rules::KernelInput;
 use rules::KernelModel;

@@ -10,7 +10,7 @@ use Rattle.rules.specs.Price.{billed, costOf, scaledPrice}
 use Rattle.rules.specs.Utility.{shareOf, qualityTermOf, riskTermOf, latencyTermOf, exactUtilityOf, utilityOf}
 use Rattle.rules.specs.Verdict.{pricedOf, verdictOf}
 use Rattle.rules.specs.Rank.{better, ranking}
-use Rattle.rules.specs.Count.{gateReason, countedFor, countsFrom, countsOf, heavier, dominantOf}
+use Rattle.rules.specs.Count.{gateReason, countedFor, raisedBy, countsFrom, countsOf, heavier, dominantOf}
 use Rattle.rules.specs.Decide.{stoppedBy, rejection, executedAs, chosen, decidedOf, decisionOf, countsIn, traceOf, requestFaults, prescribeTracedOf, requestCheck, prescribeOf, prescribeCheckedOf, prescribeTracedCheckedOf, utilityIn, utilityForModelOf}
 use Rattle.rules.specs.Listing.{firstListed, findOf, readingFaults, readingOf, recordOf}
 use Rattle.rules.specs.Explain.{explanationRecord, explained, explanationOf, explainFaults, explainOf, explainList}
@@ -23,9 +23,9 @@ use Rattle.rules.proofs.Table.{rows}
 use Rattle.rules.proofs.Vectors.{byteRows, gateRows, reasonRows, rankRows, refusalRows, boundaryRows}
 
 table : All rows
-unfolding below atLeast equal lower higher number bytesOf packed filled modelOf inputOf policyOf listedOf lengthFaults roomFaults gateOf detailOf billed costOf scaledPrice shareOf qualityTermOf riskTermOf latencyTermOf exactUtilityOf utilityOf pricedOf verdictOf better ranking gateReason countedFor countsFrom countsOf heavier dominantOf stoppedBy rejection executedAs chosen decidedOf decisionOf countsIn traceOf requestFaults prescribeTracedOf firstListed explanationRecord explained explanationOf explainFaults explainOf explainList halveIn searchOf searchAfterFarEnd leverAt selects varied decisionAt wins boundaryOf winLevers winSearch winFor winIn whatWouldWinOf marginLevers marginFor marginIn decisionMarginOf modelBytes inputBytes policyInBytes requestCheck prescribeOf prescribeCheckedOf prescribeTracedCheckedOf findOf utilityIn utilityForModelOf readingFaults readingOf recordOf
+unfolding below atLeast equal lower higher number bytesOf packed filled modelOf inputOf policyOf listedOf lengthFaults roomFaults gateOf detailOf billed costOf scaledPrice shareOf qualityTermOf riskTermOf latencyTermOf exactUtilityOf utilityOf pricedOf verdictOf better ranking gateReason countedFor raisedBy countsFrom countsOf heavier dominantOf stoppedBy rejection executedAs chosen decidedOf decisionOf countsIn traceOf requestFaults prescribeTracedOf firstListed explanationRecord explained explanationOf explainFaults explainOf explainList halveIn searchOf searchAfterFarEnd leverAt selects varied decisionAt wins boundaryOf winLevers winSearch winFor winIn whatWouldWinOf marginLevers marginFor marginIn decisionMarginOf modelBytes inputBytes policyInBytes requestCheck prescribeOf prescribeCheckedOf prescribeTracedCheckedOf findOf utilityIn utilityForModelOf readingFaults readingOf recordOf
 table = (refl, (refl, (refl, (refl, (refl, (refl, (refl, (refl, (refl, (refl, (refl, (refl, (refl, tt)))))))))))))
 
 vectors : All (byteRows ++ gateRows ++ reasonRows ++ rankRows ++ refusalRows ++ boundaryRows)
-unfolding below atLeast equal lower higher number bytesOf packed filled modelOf inputOf policyOf listedOf lengthFaults roomFaults gateOf detailOf billed costOf scaledPrice shareOf qualityTermOf riskTermOf latencyTermOf exactUtilityOf utilityOf pricedOf verdictOf better ranking gateReason countedFor countsFrom countsOf heavier dominantOf stoppedBy rejection executedAs chosen decidedOf decisionOf countsIn traceOf requestFaults prescribeTracedOf firstListed explanationRecord explained explanationOf explainFaults explainOf explainList halveIn searchOf searchAfterFarEnd leverAt selects varied decisionAt wins boundaryOf winLevers winSearch winFor winIn whatWouldWinOf marginLevers marginFor marginIn decisionMarginOf modelBytes inputBytes policyInBytes requestCheck prescribeOf prescribeCheckedOf prescribeTracedCheckedOf findOf utilityIn utilityForModelOf readingFaults readingOf recordOf
+unfolding below atLeast equal lower higher number bytesOf packed filled modelOf inputOf policyOf listedOf lengthFaults roomFaults gateOf detailOf billed costOf scaledPrice shareOf qualityTermOf riskTermOf latencyTermOf exactUtilityOf utilityOf pricedOf verdictOf better ranking gateReason countedFor raisedBy countsFrom countsOf heavier dominantOf stoppedBy rejection executedAs chosen decidedOf decisionOf countsIn traceOf requestFaults prescribeTracedOf firstListed explanationRecord explained explanationOf explainFaults explainOf explainList halveIn searchOf searchAfterFarEnd leverAt selects varied decisionAt wins boundaryOf winLevers winSearch winFor winIn whatWouldWinOf marginLevers marginFor marginIn decisionMarginOf modelBytes inputBytes policyInBytes requestCheck prescribeOf prescribeCheckedOf prescribeTracedCheckedOf findOf utilityIn utilityForModelOf readingFaults readingOf recordOf
 vectors = (refl, (refl, (refl, (refl, (refl, (refl, (refl, (refl, (refl, (refl, (refl, (refl, (refl, (refl, (refl, (refl, (refl, (refl, (refl, (refl, (refl, (refl, (refl, (refl, (refl, (refl, (refl, (refl, (refl, (refl, (refl, (refl, (refl, (refl, (refl, (refl, (refl, (refl, (refl, (refl, (refl, (refl, (refl, (refl, (refl, (refl, (refl, (refl, (refl, (refl, (refl, (refl, (refl, (refl, (refl, (refl, (refl, (refl, (refl, (refl, (refl, (refl, (refl, (refl, (refl, (refl, (refl, (refl, (refl, (refl, (refl, (refl, (refl, (refl, (refl, (refl, (refl, tt)))))))))))))))))))))))))))))))))))))))))))))))))))))))))))))))))))))))))))))

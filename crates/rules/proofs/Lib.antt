@@ -2,6 +2,9 @@
 pub mod Choices
 pub mod Told
 pub mod ToldVerdicts
+pub mod Verdicts
+pub mod Reasons
+pub mod Counts
 pub mod Layouts
 pub mod Example
 pub mod Literals

@@ -15,28 +15,57 @@ gateReason gate = getD (0 ∷ 102 ∷ 103 ∷ 104 ∷ 105 ∷ 106 ∷ 106 ∷ 10
 unfoldable pub countedFor : Verdict → ℕ
 countedFor v = getD (0 ∷ gateReason (v .gate) ∷ 108 ∷ 109 ∷ []) (v .verdict) 0
 
--- How often a number stands in a list
+-- A count of a reason, one higher where the given reason is that one
 abbrev pub oneMore : ℕ → ℕ → ℕ → ℕ
-oneMore k x n = equal k x (n + 1) n
+oneMore counted reason n = equal counted reason (n + 1) n
 
-abbrev pub tally : ℕ → List ℕ → ℕ
-tally k [] = 0
-tally k (x ∷ xs) = oneMore k x (tally k xs)
+-- D23. One more record for a reason: its count is one higher; 0 is no reason, and raises none
+unfoldable pub raisedBy : RejectionHistogram → ℕ → RejectionHistogram
+raisedBy c reason =
+    record {
+      disabled = oneMore 102 reason (c .disabled);
+      quality = oneMore 103 reason (c .quality);
+      «risk_ceiling» = oneMore 110 reason (c .«risk_ceiling»);
+      latency = oneMore 104 reason (c .latency);
+      capability = oneMore 105 reason (c .capability);
+      provider = oneMore 106 reason (c .provider);
+      region = oneMore 107 reason (c .region);
+      budget = oneMore 108 reason (c .budget);
+      utility = oneMore 109 reason (c .utility);
+    }
+
+-- D1, D2. No record counted
+abbrev pub noCounts : RejectionHistogram
+noCounts =
+    record {
+      disabled = 0;
+      quality = 0;
+      «risk_ceiling» = 0;
+      latency = 0;
+      capability = 0;
+      provider = 0;
+      region = 0;
+      budget = 0;
+      utility = 0;
+    }
 
 -- D23. How many records count for each reason
 unfoldable pub countsFrom : List ℕ → RejectionHistogram
-countsFrom reasons =
-    record {
-      disabled = tally 102 reasons;
-      quality = tally 103 reasons;
-      «risk_ceiling» = tally 110 reasons;
-      latency = tally 104 reasons;
-      capability = tally 105 reasons;
-      provider = tally 106 reasons;
-      region = tally 107 reasons;
-      budget = tally 108 reasons;
-      utility = tally 109 reasons;
-    }
+countsFrom [] = noCounts
+countsFrom (r ∷ rs) = raisedBy (countsFrom rs) r
+
+-- D23. The nine counts together
+abbrev pub total : RejectionHistogram → ℕ
+total c =
+    c .disabled
+    + c .quality
+    + c .«risk_ceiling»
+    + c .latency
+    + c .capability
+    + c .provider
+    + c .region
+    + c .budget
+    + c .utility
 
 abbrev pub reasonsOf : List Judged → List ℕ
 reasonsOf js = map (λ j. countedFor (j .verdict)) js

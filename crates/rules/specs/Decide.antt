@@ -11,7 +11,7 @@ use Rattle.rules.specs.Numbers.{Fault, Faults, fault, inputFault, firstF
 use Rattle.rules.specs.Listing.{firstListed}
 use Rattle.rules.specs.Verdict.{Judged, judged, verdictOf}
 use Rattle.rules.specs.Rank.{Candidate, ranking}
-use Rattle.rules.specs.Count.{countsFrom, countsOf, dominantOf}
+use Rattle.rules.specs.Count.{noCounts, countsOf, dominantOf}
 use Rattle.rules.specs.declared.records.KernelInput.{KernelInput}
 use Rattle.rules.specs.declared.records.PolicySnapshot.{PolicySnapshot}
 use Rattle.rules.specs.declared.decision.RejectionHistogram.{RejectionHistogram}
@@ -88,7 +88,7 @@ decisionOf p q ls = below 0 (stoppedBy p q) (rejection p q (stoppedBy p q) 0) (d
 
 -- D1, D2, D23. The counts: zero where the request is stopped
 unfoldable pub countsIn : PolicySnapshot → KernelInput → List Listed → RejectionHistogram
-countsIn p q ls = below 0 (stoppedBy p q) (countsFrom []) (countsOf (judged p q ls))
+countsIn p q ls = below 0 (stoppedBy p q) noCounts (countsOf (judged p q ls))
 
 -- D23. A decision with its counts
 unfoldable pub traceOf : Decision → RejectionHistogram → DecisionTrace

@@ -2,8 +2,8 @@
 use mathlib.Core.Logic.{inl, inr}
 use Rattle.rules.specs.Choice.{equal}
 use Rattle.rules.specs.Count.{gateReason}
-use Rattle.gates.specs.Raise.{raisedBy}
-use Rattle.gates.proofs.Reasons.{past, reason-none, reason-shared}
+use Rattle.rules.specs.Count.{raisedBy}
+use Rattle.rules.proofs.Reasons.{past, reason-none, reason-shared}
 use borrow.Author.Needs.{needs}
 use Rattle.gates.proofs.raised.Statement.{statement}
 use Rattle.gates.proofs.raised.Tie as tie

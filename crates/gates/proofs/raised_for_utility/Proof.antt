@@ -1,7 +1,7 @@
 -- `gates::raised_for_utility` meets its contract. Assumes nothing.
 use mathlib.Core.Path.{refl}
 use Rattle.rules.specs.Choice.{equal}
-use Rattle.gates.specs.Raise.{raisedBy}
+use Rattle.rules.specs.Count.{raisedBy}
 use borrow.Author.Needs.{needs}
 use Rattle.gates.proofs.raised_for_utility.Statement.{statement}
 use Rattle.gates.proofs.raised_for_utility.Tie as tie

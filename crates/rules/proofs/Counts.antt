@@ -6,18 +6,17 @@ use mathlib.Core.Bool.{Bool, true, false, cond}
 use mathlib.Core.List.{List, [], _∷_, _++_}
 use lib.Dec.{eqb}
 use lib.ListN.{length, length-map}
 use Rattle.rules.specs.Choice.{equal}
 use Rattle.rules.specs.Numbers.{Verdict}
 use Rattle.rules.specs.Records.{Listed}
 use Rattle.rules.specs.Verdict.{Judged, judge, judged, verdictOf}
 use Rattle.rules.specs.Rank.{Candidate, candidateOf, eligibles}
-use Rattle.rules.specs.Count.{gateReason, countedFor, oneMore, tally, countsFrom, reasonsOf, countsOf}
+use Rattle.rules.specs.Count.{gateReason, countedFor, oneMore, raisedBy, total, countsFrom, reasonsOf, countsOf}
 use Rattle.rules.specs.declared.decision.RejectionHistogram.{RejectionHistogram}
 use Rattle.rules.specs.declared.records.KernelInput.{KernelInput}
 use Rattle.rules.specs.declared.records.PolicySnapshot.{PolicySnapshot}
-use Rattle.gates.specs.Raise.{raisedBy, total}
-use Rattle.gates.proofs.Reasons.{reason-counted}
-use Rattle.gates.proofs.Verdicts.{Told, by-gate, by-budget, by-utility, eligible, verdict-told}
+use Rattle.rules.proofs.Reasons.{reason-counted}
+use Rattle.rules.proofs.Verdicts.{Told, by-gate, by-budget, by-utility, eligible, verdict-told}
 
 -- ---- one record more
 
@@ -27,20 +26,31 @@ swap true false n = refl
 swap false true n = refl
 swap false false n = refl
 
-tally-snoc : (k : ℕ) (rs : List ℕ) (r : ℕ) → tally k (rs ++ r ∷ []) ≡ oneMore k r (tally k rs)
+-- which of two records is counted first makes no difference, at any count
+either-first : (k r s n : ℕ) → oneMore k r (oneMore k s n) ≡ oneMore k s (oneMore k r n)
 unfolding equal
-tally-snoc k [] r = refl
-tally-snoc k (x ∷ rs) r = rw (tally-snoc k rs r) (swap (eqb k x) (eqb k r) (tally k rs))
+either-first k r s n = swap (eqb k r) (eqb k s) n
+
+raised-either : (c : RejectionHistogram) (r s : ℕ) → raisedBy (raisedBy c r) s ≡ raisedBy (raisedBy c s) r
+unfolding raisedBy
+raised-either c r s = λ i.
+    record {
+      disabled = either-first 102 s r (c .disabled) i;
+      quality = either-first 103 s r (c .quality) i;
+      «risk_ceiling» = either-first 110 s r (c .«risk_ceiling») i;
+      latency = either-first 104 s r (c .latency) i;
+      capability = either-first 105 s r (c .capability) i;
+      provider = either-first 106 s r (c .provider) i;
+      region = either-first 107 s r (c .region) i;
+      budget = either-first 108 s r (c .budget) i;
+      utility = either-first 109 s r (c .utility) i;
+    }
 
 -- THE LAST RECORD'S REASON RAISES ITS COUNT, and no other
 pub counts-snoc : (rs : List ℕ) (r : ℕ) → countsFrom (rs ++ r ∷ []) ≡ raisedBy (countsFrom rs) r
-unfolding countsFrom raisedBy
-counts-snoc rs r = simp tally-snoc
-
--- and so does the first's
-pub counts-cons : (r : ℕ) (rs : List ℕ) → countsFrom (r ∷ rs) ≡ raisedBy (countsFrom rs) r
-unfolding countsFrom raisedBy
-counts-cons r rs = refl
+unfolding countsFrom
+counts-snoc [] r = refl
+counts-snoc (x ∷ rs) r = rw (counts-snoc rs r) (raised-either (countsFrom rs) r x)
 
 reasons-snoc : (js : List Judged) (j : Judged) → reasonsOf (js ++ j ∷ []) ≡ reasonsOf js ++ countedFor (j .verdict) ∷ []
 reasons-snoc [] j = refl

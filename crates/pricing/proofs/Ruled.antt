@@ -1,0 +1,45 @@
+-- What the crate's definitions are by the rules of document 01. Assumes nothing.
+use mathlib.Core.Path.{_≡_, refl, ap, _∙_}
+use Prim.Native.Nat.{_+_, _^_, _<_}
+use Rattle.rules.specs.Price.{costOf}
+use Rattle.rules.specs.Utility.{held, orZero, qualityTermOf, riskTermOf, latencyTermOf, exactUtilityOf, utilityOf}
+use Rattle.rules.specs.Wide.{val}
+use Rattle.rules.specs.declared.records.KernelModel.{KernelModel}
+use Rattle.rules.specs.declared.records.KernelInput.{KernelInput}
+use Rattle.rules.specs.declared.records.PolicySnapshot.{PolicySnapshot}
+use Rattle.pricing.specs.declared.ScoredTerms.{ScoredTerms}
+use Rattle.pricing.specs.Score.{unscored, scoreOf}
+use Rattle.pricing.specs.Pricing.{pricingOf, Settled, scoredTerms, termsWith}
+use Rattle.pricing.proofs.Values.{share-lt, wide-val}
+use Rattle.pricing.proofs.Scores.{score-stands, three-losses}
+
+-- a pricing of a policy and a request whose numbers are those of their types is settled
+pub settled : (p : PolicySnapshot) (q : KernelInput) → orZero (q .«business_value_microunits») < 2 ^ 64 → q .«risk_bps» < 2 ^ 16 → p .«risk_penalty_multiplier_bps» < 2 ^ 16 → Settled (pricingOf p q)
+unfolding pricingOf riskTermOf
+settled p q v r m = record { prefix = refl; room = rw (wide-val (riskTermOf p q)) (share-lt v r m) }
+
+-- terms that are those of the rules, and a score that stands for the rules' utility
+pub record Ruled (p : PolicySnapshot) (m : KernelModel) (q : KernelInput) (t : ScoredTerms) : Type 0 where
+  pub quality : val (t .«quality_adjusted») ≡ qualityTermOf m q
+  pub risk : val (t .«risk_penalty») ≡ riskTermOf p q
+  pub cost : t .«cost_microunits» ≡ costOf m q
+  pub latency : val (t .«latency_penalty») ≡ latencyTermOf p m
+  pub utility : unscored (t .score) ≡ utilityOf p m q
+
+module _ (p : PolicySnapshot) (m : KernelModel) (q : KernelInput) where
+  -- the score of the rules' terms stands for the rules' utility
+  worth : unscored (scoreOf (qualityTermOf m q) (riskTermOf p q + (costOf m q + latencyTermOf p m))) ≡ utilityOf p m q
+  unfolding utilityOf exactUtilityOf
+  worth = score-stands _ _ ∙ ap held (three-losses (qualityTermOf m q) (riskTermOf p q) (costOf m q) (latencyTermOf p m))
+
+  -- the terms under the pricing of a policy and a request, at the model's cost, are the rules'
+  pub terms-rule : Ruled p m q (termsWith (pricingOf p q) m (costOf m q))
+  unfolding termsWith scoredTerms pricingOf qualityTermOf latencyTermOf
+  terms-rule =
+      record {
+        quality = wide-val _;
+        risk = wide-val _;
+        cost = refl;
+        latency = wide-val _;
+        utility = rw (wide-val (riskTermOf p q)) worth;
+      }

@@ -1,0 +1,64 @@
+-- How large products and terms are, and which limbs a number has. Assumes nothing.
+use mathlib.Core.Path.{_≡_, sym, ap, _∙_}
+use Prim.Native.Nat.{ℕ, _+_, _-_, _*_, _/_, _%_, _^_, _<_, _≤_}
+use native.Mathlib.Nat.{mul-le-mul, lt-of-not-le, le-of-suc-le-suc, mul-assoc, mul-add-div-right, mul-add-mod-self-right, div-eq-of-lt, mod-eq-of-lt, div-add-mod'}
+use native.Mathlib.Omega.{arith}
+use native.Mathlib.Decide.{decLt}
+use lib.Pow.{le-ones, pow-pos}
+use Rattle.limbs.proofs.Limbs.{limbs-is}
+use Rattle.rules.proofs.Choices.{below-yes, below-no}
+use Rattle.rules.specs.Limits.{scaledBasisPoints, maxU64}
+use Rattle.rules.specs.Utility.{shareOf}
+use Rattle.rules.specs.Wide.{val, limbs, wideOf}
+use Rattle.rules.specs.declared.wide.Wide.{Wide}
+use Rattle.pricing.specs.Pricing.{prefixOf}
+
+-- numbers of j and of k bits multiply to no more than the highest two do
+pub product-le : (j k : ℕ) {a b : ℕ} → a < 2 ^ j → b < 2 ^ k → a * b ≤ (2 ^ j - 1) * (2 ^ k - 1)
+product-le j k p q = mul-le-mul (le-ones j p) (le-ones k q)
+
+-- a value times two shares has less than 70 bits
+pub share-lt : {v a b : ℕ} → v < 2 ^ 64 → a < 2 ^ 16 → b < 2 ^ 16 → shareOf v a b < 2 ^ 70
+unfolding shareOf
+share-lt {v} {a} p q r = omega (arith, product-le 80 16 {a = v * a} (omega (arith, product-le 64 16 p q)) r)
+
+-- the shares may be multiplied first
+pub share-of-product : (v a b : ℕ) → v * (a * b) / scaledBasisPoints ≡ shareOf v a b
+unfolding shareOf
+share-of-product v a b = ap (λ n. n / scaledBasisPoints) (sym (mul-assoc v a b))
+
+-- ---- a prefix
+
+prefix-cases : (v a : ℕ) → prefixOf v a < maxU64 → Dec (v < 2 ^ 48) → prefixOf v a ≡ v * a
+unfolding prefixOf
+prefix-cases v a h (yes p) = below-yes v (2 ^ 48) _ _ p
+prefix-cases v a h (no n) = absurd (omega (arith, below-no v (2 ^ 48) (v * a) maxU64 (le-of-suc-le-suc (lt-of-not-le n))))
+
+-- a prefix below the highest u64 is the value times the share, so what is computed from it is the term
+pub prefix-share : (v a b n : ℕ) → n ≡ prefixOf v a → n < maxU64 → n * b / scaledBasisPoints ≡ shareOf v a b
+unfolding shareOf
+prefix-share v a b n e h = ap (λ k. k * b / scaledBasisPoints) (e ∙ prefix-cases v a (omega arith) (decLt v (2 ^ 48)))
+
+-- ---- the limbs of a number
+
+-- two digits in a base P, from the number
+upper : (P h l : ℕ) → 0 < P → l < P → (h * P + l) / P ≡ h
+upper P h l p q = mul-add-div-right p h l ∙ omega (arith, div-eq-of-lt q)
+
+lower : (P h l : ℕ) → l < P → (h * P + l) % P ≡ l
+lower P h l q = mul-add-mod-self-right h P l ∙ mod-eq-of-lt q
+
+-- limbs that stand for n are the limbs of n
+pub wide-is : (w : Wide) (n : ℕ) → w .lo < 2 ^ 64 → val w ≡ n → w ≡ wideOf n
+unfolding wideOf
+wide-is w n p e =
+    let f : n ≡ w .hi * 2 ^ 64 + w .lo = sym e ∙ limbs-is (w .hi) (w .lo) in
+    λ i. record {
+      hi = (sym (upper (2 ^ 64) (w .hi) (w .lo) (pow-pos 64) p) ∙ ap (λ k. k / 2 ^ 64) (sym f)) i;
+      lo = (sym (lower (2 ^ 64) (w .hi) (w .lo) p) ∙ ap (λ k. k % 2 ^ 64) (sym f)) i;
+    }
+
+-- the limbs of n stand for n
+pub wide-val : (n : ℕ) → val (wideOf n) ≡ n
+unfolding wideOf
+wide-val n = limbs-is (n / 2 ^ 64) (n % 2 ^ 64) ∙ div-add-mod' n (2 ^ 64)

@@ -1,0 +1,18 @@
+-- `pricing::price::scaled_price` meets its contract: two factors of 32 bits need no holding. Assumes nothing.
+use Prim.Native.Nat.{_-_, _*_, _^_, _≤_}
+use native.Mathlib.Omega.{arith}
+use borrow.Author.Needs.{needs}
+use Rattle.rules.specs.Price.{scaledPrice}
+use Rattle.pricing.proofs.Values.{product-le}
+use Rattle.pricing.proofs.price.scaled_price.Statement.{statement}
+use Rattle.pricing.proofs.price.scaled_price.Tie as tie
+
+known : (c : tie.Then2) → c .before .before .args .price * c .before .before .args .scale ≤ (2 ^ 32 - 1) * (2 ^ 32 - 1)
+known c = product-le 32 32 (c .before .if1 .taken) (c .if2 .taken)
+
+returns : tie.Need-returns
+unfolding scaledPrice
+returns c = omega (arith, known (c))
+
+pub scaled-price-spec : {M : Type 1} → statement M
+scaled-price-spec = tie.close (tie.spec (λ c. omega (arith, known c)) returns (λ c κs. search needs) (λ c. search needs))

@@ -1,0 +1,14 @@
+-- `pricing::price::scaled_price_wide` meets its contract. Assumes nothing.
+use native.Mathlib.Omega.{arith}
+use borrow.Author.Needs.{needs}
+use Rattle.rules.specs.Price.{scaledPrice}
+use Rattle.pricing.proofs.price.scaled_price_wide.Statement.{statement}
+use Rattle.pricing.proofs.price.scaled_price_wide.Tie as tie
+
+returns : tie.Need-returns
+unfolding scaledPrice
+returns c = omega arith
+
+pub scaled-price-wide-spec : {M : Type 1} → statement M
+scaled-price-wide-spec =
+    tie.close (tie.spec (λ c κs. search needs) (λ c κs. search needs) (λ c κs. search needs) returns)

@@ -1,0 +1,29 @@
+-- `pricing::worth::terms` meets its contract: the short way computes the same four terms. Assumes nothing.
+use mathlib.Core.Path.{_∙_}
+use native.Mathlib.Omega.{arith}
+use borrow.Author.Needs.{needs}
+use Rattle.pricing.specs.Pricing.{scoredTerms, termsWith}
+use Rattle.pricing.proofs.Values.{prefix-share}
+use Rattle.pricing.proofs.worth.terms.Statement.{statement}
+use Rattle.pricing.proofs.worth.terms.Tie as tie
+
+returns : tie.Need-returns
+unfolding termsWith
+returns c =
+    let start = c .before .before .before .before .before .before .before .before in
+    let s = start .args in
+    let t = prefix-share (s .pr .value) (s .pr .«confidence_bps») (s .model .«quality_bps») (s .pr .«quality_prefix») (start .pre .prefix) (omega arith) in
+    let e = c .before .before .share-small .ensures .0 ∙ t in
+    c .terms-small .ensures ∙ (λ i. scoredTerms (e i) (s .pr .«risk_penalty») (s .cost) (c .before .late-small .ensures i))
+
+pub terms-spec : {M : Type 1} → statement M
+terms-spec =
+    tie.close
+    (tie.spec
+    (λ c κs. search needs)
+    (λ c κs. search needs)
+    (λ c κs. search needs)
+    (λ c κs. search needs)
+    returns
+    (λ c κs. search needs)
+    (λ c. search needs))

@@ -1,0 +1,36 @@
+-- `pricing::worth::terms_small` meets its contract: the score stays below 2 ^ 64, so that only 0 holds it. Assumes nothing.
+use mathlib.Core.Path.{_≡_}
+use Prim.Native.Nat.{_+_}
+use native.Mathlib.Omega.{arith}
+use borrow.Author.Needs.{needs}
+use Rattle.rules.specs.Wide.{val}
+use Rattle.pricing.specs.Score.{scoreOf}
+use Rattle.pricing.specs.Pricing.{scoredTerms}
+use Rattle.pricing.proofs.worth.terms_small.Statement.{statement}
+use Rattle.pricing.proofs.worth.terms_small.Tie as tie
+
+returns : tie.Need-returns
+unfolding scoredTerms scoreOf
+returns c =
+    let s = c .before .before .before .before .before .args in
+    let e : c .less2 .result ≡ scoreOf (s .quality) (val (s .risk) + (s .cost + s .latency)) = omega arith in
+    λ i. record {
+      «quality_adjusted» = c .before .before .before .widened .ensures i;
+      «risk_penalty» = s .risk;
+      «cost_microunits» = s .cost;
+      «latency_penalty» = c .before .before .widened2 .ensures i;
+      score = e i;
+    }
+
+pub terms-small-spec : {M : Type 1} → statement M
+terms-small-spec =
+    tie.close
+    (tie.spec
+    (λ c κs. search needs)
+    (λ c. search needs)
+    (λ c. search needs)
+    (λ c κs. search needs)
+    (λ c κs. search needs)
+    (λ c κs. search needs)
+    (λ c κs. search needs)
+    returns)

@@ -1,0 +1,24 @@
+-- `pricing::worth::utility_terms` meets its contract, field by field. Assumes nothing.
+use mathlib.Core.Path.{_∙_}
+use borrow.Author.Needs.{needs}
+use mir.Syntax.{w64}
+use mir.ValLaws.{toZ-ofZ}
+use Rattle.pricing.specs.Pricing.{utilityTermsOf}
+use Rattle.pricing.proofs.worth.utility_terms.Statement.{statement}
+use Rattle.pricing.proofs.worth.utility_terms.Tie as tie
+
+returns : tie.Need-returns
+unfolding utilityTermsOf
+returns c =
+    let t = c .before .before .before .before .args .t in
+    let u = toZ-ofZ w64 (c .utility-of .result) (record { sfits = c .utility-of .ok }) ∙ c .utility-of .ensures in
+    λ i. record {
+      «quality_adjusted» = t .«quality_adjusted»;
+      «risk_penalty» = t .«risk_penalty»;
+      «cost_microunits» = t .«cost_microunits»;
+      «latency_penalty» = t .«latency_penalty»;
+      utility = u i;
+    }
+
+pub utility-terms-spec : {M : Type 1} → statement M
+utility-terms-spec = tie.close (tie.spec (λ c κs. search needs) returns)

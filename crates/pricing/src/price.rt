@@ -1,0 +1,84 @@
+// What tokens cost. By 64 bits where the prices are below 2^32, whatever the tokens; else by two limbs.
+ghost use mathlib.Core.Path.{_≡_};
+ghost use Prim.Native.Nat.{min, _+_, _-_, _*_, _/_, _^_, _<_};
+ghost use Rattle.rules.specs.Limits.{costScale, maxU64};
+ghost use Rattle.rules.specs.Price.{billed, costOf, scaledPrice};
+ghost use Rattle.rules.specs.Wide.{val};
+use crate::HALF;
+use rules::KernelInput;
+use rules::KernelModel;
+use rules::Wide;
+use rules::limits::PPM;
+
+// Tokens that a price is for: the Rust's COST_SCALE.
+const COST_SCALE: u64 = 1_000_000;
+
+// One direction's cost by 64 bits: half of `model_cost_fast`.
+fn billed_small(tokens: u32, price: u64) -> u64
+    requires { ⌜ price < 2 ^ 32 ⌝ }
+    ensures { λ r. ⌜ (r ≡ billed tokens price) × (r < 2 ^ 62) ⌝ }
+{
+    ((tokens as u64) * price + (COST_SCALE - 1)) / COST_SCALE
+}
+
+// Tokens times a price by two limbs.
+fn exact_wide(tokens: u32, price: u64) -> Wide
+    ensures { λ r. ⌜ (val r ≡ tokens * price) × (tokens * price < 2 ^ 96) ⌝ }
+{
+    limbs::product(tokens as u64, price)
+}
+
+// By the million tokens, rounded up: each division of `model_cost_reference`.
+fn rounded_up(exact: Wide) -> Wide
+    requires { ⌜ val exact < 2 ^ 100 ⌝ }
+    ensures { λ r. ⌜ (val r ≡ (val exact + (costScale - 1)) / costScale) × (val r < 2 ^ 100) ⌝ }
+{
+    limbs::quotient(limbs::add(exact, limbs::of_one(COST_SCALE - 1)), COST_SCALE)
+}
+
+// Both directions by two limbs, each rounded up apart: `model_cost_reference`.
+fn cost_wide(tokens: u32, price: u64, more: u32, dear: u64) -> u64
+    ensures { λ r. ⌜ r ≡ min maxU64 ((tokens * price + (costScale - 1)) / costScale + (more * dear + (costScale - 1)) / costScale) ⌝ }
+{
+    let there = exact_wide(tokens, price);
+    let back = exact_wide(more, dear);
+    limbs::held(limbs::add(rounded_up(there), rounded_up(back)))
+}
+
+// What a model costs for a request, each direction rounded up apart: `Pricing::cost`. Where both prices are small, the sum
+// needs no test: `model_cost_fast`.
+pub fn cost(model: KernelModel, input: KernelInput) -> u64
+    ensures { λ r. ⌜ r ≡ costOf model input ⌝ }
+{
+    let tokens = input.input_tokens;
+    let price = model.input_cost_microunits_per_million_tokens;
+    let more = input.output_tokens;
+    let dear = model.output_cost_microunits_per_million_tokens;
+    if price < HALF {
+        if dear < HALF {
+            let a = billed_small(tokens, price);
+            let b = billed_small(more, dear);
+            return a + b;
+        }
+    }
+    cost_wide(tokens, price, more, dear)
+}
+
+// A scaled price by two limbs.
+fn scaled_price_wide(price: u64, scale: u64) -> u64
+    ensures { λ r. ⌜ r ≡ scaledPrice price scale ⌝ }
+{
+    limbs::held(limbs::quotient(limbs::product(price, scale), PPM))
+}
+
+// A price at a scale in millionths, rounded down, held at the highest u64: `scaled` of one price.
+pub fn scaled_price(price: u64, scale: u64) -> u64
+    ensures { λ r. ⌜ r ≡ scaledPrice price scale ⌝ }
+{
+    if price < HALF {
+        if scale < HALF {
+            return price * scale / PPM;
+        }
+    }
+    scaled_price_wide(price, scale)
+}

@@ -1,0 +1,132 @@
+// A model's terms, their score, and the utility that a score stands for.
+ghost use mathlib.Core.Path.{_≡_};
+ghost use Prim.Native.Nat.{_-_, _*_, _^_, _<_, _≤_};
+ghost use Rattle.rules.specs.Wide.{val};
+ghost use Rattle.pricing.specs.Score.{unscored, scoreOf};
+ghost use Rattle.pricing.specs.Pricing.{Settled, scoredTerms, termsWith, utilityTermsOf};
+use crate::HALF;
+use crate::PREFIX_LIMIT;
+use crate::Pricing;
+use crate::ScoredTerms;
+use crate::settle::share;
+use crate::settle::share_small;
+use crate::settle::widened;
+use rules::KernelModel;
+use rules::UtilityTerms;
+use rules::Wide;
+
+// The score of a utility of 0: 2^63.
+const ZERO_SCORE: u64 = 0x8000_0000_0000_0000;
+
+const MAX_I64: u64 = 0x7fff_ffff_ffff_ffff;
+
+// a less b, or 0 where b is the higher.
+fn less(a: u64, b: u64) -> u64
+    ensures { λ r. ⌜ r ≡ a - b ⌝ }
+{
+    if a < b {
+        return 0;
+    }
+    a - b
+}
+
+// The latency term by 64 bits.
+fn late_small(ms: u32, penalty: u64) -> u64
+    requires { ⌜ penalty < 2 ^ 32 ⌝ }
+    ensures { λ r. ⌜ r ≡ ms * penalty ⌝ }
+{
+    (ms as u64) * penalty
+}
+
+// Four terms and their score by 64 bits.
+fn terms_small(quality: u64, risk: Wide, cost: u64, latency: u64) -> ScoredTerms
+    requires { ⌜ (quality < 2 ^ 62) × (val risk ≤ 2 ^ 63) ⌝ }
+    ensures { λ r. ⌜ r ≡ scoredTerms quality risk cost latency ⌝ }
+{
+    let up = ZERO_SCORE - limbs::held(risk) + quality;
+    ScoredTerms {
+        quality_adjusted: widened(quality),
+        risk_penalty: risk,
+        cost_microunits: cost,
+        latency_penalty: widened(latency),
+        score: less(less(up, latency), cost),
+    }
+}
+
+// The score of a gain less a loss by two limbs: `clamp_i128_to_i64` of the difference.
+fn score_wide(gain: Wide, loss: Wide) -> u64
+    requires { ⌜ val gain < 2 ^ 120 ⌝ }
+    ensures { λ r. ⌜ r ≡ scoreOf (val gain) (val loss) ⌝ }
+{
+    let up = limbs::add(gain, limbs::of_one(ZERO_SCORE));
+    let left = limbs::difference(up, loss);
+    if left.negative {
+        return 0;
+    }
+    limbs::held(left.size)
+}
+
+// A model's terms by two limbs.
+fn terms_wide(pr: Pricing, model: KernelModel, cost: u64) -> ScoredTerms
+    requires { ⌜ Settled pr ⌝ }
+    ensures { λ r. ⌜ r ≡ termsWith pr model cost ⌝ }
+{
+    let quality = share(pr.value, pr.confidence_bps, model.quality_bps);
+    let latency = limbs::product(model.p95_latency_ms as u64, pr.latency_pen_per_ms);
+    let risk = pr.risk_penalty;
+    let loss = limbs::add(risk, limbs::add(limbs::of_one(cost), latency));
+    ScoredTerms {
+        quality_adjusted: quality,
+        risk_penalty: risk,
+        cost_microunits: cost,
+        latency_penalty: latency,
+        score: score_wide(quality, loss),
+    }
+}
+
+// A model's terms, its cost given: `Pricing::terms`. By 64 bits where the numbers that every model shares leave room for
+// any model's.
+pub fn terms(pr: Pricing, model: KernelModel, cost: u64) -> ScoredTerms
+    requires { ⌜ Settled pr ⌝ }
+    ensures { λ r. ⌜ r ≡ termsWith pr model cost ⌝ }
+{
+    let prefix = pr.quality_prefix;
+    let penalty = pr.latency_pen_per_ms;
+    let risk = pr.risk_penalty;
+    if prefix < PREFIX_LIMIT {
+        if penalty < HALF {
+            if limbs::held(risk) <= ZERO_SCORE {
+                let quality = share_small(prefix, model.quality_bps);
+                let latency = late_small(model.p95_latency_ms, penalty);
+                return terms_small(quality, risk, cost, latency);
+            }
+        }
+    }
+    terms_wide(pr, model, cost)
+}
+
+// The utility that a score stands for. Below zero it is a complement, since the size of the lowest i64 is no i64.
+pub fn utility_of(score: u64) -> i64
+    ensures { λ r. ⌜ r ≡ unscored score ⌝ }
+{
+    if score < ZERO_SCORE {
+        return !((MAX_I64 - score) as i64);
+    }
+    (score - ZERO_SCORE) as i64
+}
+
+// The terms with the utility itself.
+pub fn utility_terms(t: ScoredTerms) -> UtilityTerms
+    ensures { λ r. ⌜ r ≡ utilityTermsOf t ⌝ }
+{
+    let quality = t.quality_adjusted;
+    let risk = t.risk_penalty;
+    let latency = t.latency_penalty;
+    UtilityTerms {
+        quality_adjusted: quality,
+        risk_penalty: risk,
+        cost_microunits: t.cost_microunits,
+        latency_penalty: latency,
+        utility: utility_of(t.score),
+    }
+}
