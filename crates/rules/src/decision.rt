@@ -1,6 +1,8 @@
 // A decision, its counts, and the answers of the calls that decide.
 use crate::refusal::Refusal;
 ghost use mathlib.Core.Path.{_≡_};
+ghost use mathlib.Core.Bool.{not};
+ghost use lib.Dec.{eqb};
 ghost use Rattle.rules.specs.Numbers.{actionNo, reasonNo};
 
 pub enum KernelAction {
@@ -142,5 +144,40 @@ impl KernelReason {
             KernelReason::NonPositiveUtility => 109,
             KernelReason::RiskCeilingConstraint => 110,
         }
+    }
+}
+
+// The four questions of a decision, by its action's number.
+impl KernelDecision {
+    // A model was chosen and may be executed.
+    pub fn is_executable(self) -> bool
+        ensures { λ r. ⌜ r ≡ not (eqb (actionNo (self .action)) 3) ⌝ }
+    {
+        let action = self.action;
+        action.number() != 3
+    }
+
+    // The requested model was chosen.
+    pub fn is_requested_execution(self) -> bool
+        ensures { λ r. ⌜ r ≡ eqb (actionNo (self .action)) 1 ⌝ }
+    {
+        let action = self.action;
+        action.number() == 1
+    }
+
+    // Another model was.
+    pub fn is_substitution(self) -> bool
+        ensures { λ r. ⌜ r ≡ eqb (actionNo (self .action)) 2 ⌝ }
+    {
+        let action = self.action;
+        action.number() == 2
+    }
+
+    // None was.
+    pub fn is_rejected(self) -> bool
+        ensures { λ r. ⌜ r ≡ eqb (actionNo (self .action)) 3 ⌝ }
+    {
+        let action = self.action;
+        action.number() == 3
     }
 }
