@@ -1,6 +1,6 @@
 -- The theorems on ranking, choice and reasons at document 01's example, each once: none is empty. Model 2 stands in the bank twice, so that
 -- its two records are level but for their places. Assumes nothing.
-use Prim.Native.Nat.{ℕ}
+use Prim.Native.Nat.{ℕ, _+_}
 use mathlib.Core.Path.{_≡_, refl, ap, subst, _∙_}
 use mathlib.Core.Bool.{true, false}
 use mathlib.Core.Logic.{_⊎_}
@@ -16,8 +16,8 @@ use Rattle.rules.specs.Price.{billed, costOf}
 use Rattle.rules.specs.Utility.{shareOf, qualityTermOf, riskTermOf, latencyTermOf, exactUtilityOf, utilityOf}
 use Rattle.rules.specs.Verdict.{Judged, pricedOf, verdictOf, judge}
 use Rattle.rules.specs.Rank.{Candidate, better, sorted, eligibles, ranking}
-use Rattle.rules.specs.Count.{Weight, weights, countsFrom, countsOf, heavier, dominantOf}
-use Rattle.rules.specs.Decide.{stoppedBy, rejection, decisionOf}
+use Rattle.rules.specs.Count.{Weight, weights, countsFrom, countsOf, heavier, dominantOf, total}
+use Rattle.rules.specs.Decide.{stoppedBy, rejection, decisionOf, countsIn}
 use Rattle.rules.specs.declared.records.KernelInput.{KernelInput}
 use Rattle.rules.specs.declared.records.PolicySnapshot.{PolicySnapshot}
 use Rattle.rules.proofs.Example.{modelTwo, bank, policy, request, counts, noCounts}
@@ -28,6 +28,7 @@ use Rattle.demands.proofs.Better.{better-not-itself, better-goes-on, be
 use Rattle.demands.proofs.Ranking.{ranking-in-order, ranking-permutes, ranking-counts}
 use Rattle.demands.proofs.Places.{bank-rising, judged-different, ranked-once, ranking-strict, first-beats-rest, second-beats-rest}
 use Rattle.demands.proofs.Decision.{decided-by-first-two, rejected-where-none, chosen-beats-all, counterfactual-beats-others}
+use Rattle.demands.proofs.Sums.{counts-make-up}
 use Rattle.demands.proofs.Keeping.{rust-keeps-first-two, rust-keeps-of-bank}
 use Rattle.demands.proofs.Dominant.{dominant-last-largest, dominant-of-none}
 
@@ -156,6 +157,11 @@ kept-by-computation = (refl, refl, refl)
 fallen : (keptInRust (twin ∷ best ∷ []) ≡ two (some twin) (some best)) × (firstTwo (sorted (twin ∷ best ∷ [])) ≡ two (some best) (some twin))
 unfolding keptInRust turn betterInRust better lower higher
 fallen = (refl, refl)
+
+-- ---- the sum: no record is counted, and all are eligible
+
+made-up : total (countsIn p q (listedOf three)) + decisionOf p q (listedOf three) .eligible ≡ decisionOf p q (listedOf three) .evaluated
+made-up = counts-make-up p q (listedOf three)
 
 -- ---- reasons: one record for capability, one switched off, and disabled is the last; all zero
 

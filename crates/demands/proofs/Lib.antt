@@ -9,6 +9,7 @@ pub mod Lists
 pub mod Ranking
 pub mod Places
 pub mod Decision
+pub mod Sums
 pub mod Keeping
 pub mod Dominant
 pub mod ChoiceExample
