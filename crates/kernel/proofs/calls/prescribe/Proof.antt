@@ -1,0 +1,28 @@
+-- `kernel::prescribe` meets its contract. Assumes nothing.
+use mathlib.Core.Path.{sym, ap, _∙_}
+use borrow.Author.Needs.{needs}
+use Rattle.rules.specs.Numbers.{answered}
+use Rattle.rules.specs.Decide.{prescribeOf}
+use Rattle.kernel.proofs.Refusals.{unless-passed, unless-refused, bank-room}
+use Rattle.kernel.proofs.calls.prescribe.Statement.{statement}
+use Rattle.kernel.proofs.calls.prescribe.Tie as tie
+
+returns : tie.Need-returns
+unfolding prescribeOf
+returns c =
+    let o = c .before in
+    sym (unless-refused _ _ (o .outcome .given .1) (o .before .before .bank-outcome .ensures))
+
+decide-requires : tie.Need-decide-requires
+decide-requires c κs = bank-room _ (c .enum-told .given .1) (c .before .before .bank-outcome .ensures)
+
+returns-2 : tie.Need-returns-2
+unfolding prescribeOf
+returns-2 c =
+    let o = c .before in
+    ap answered (c .decide .ensures) ∙ sym (unless-passed _ _ (o .enum-told .given .1) (o .before .before .bank-outcome .ensures))
+
+pub prescribe-spec : {M : Type 1} → statement M
+prescribe-spec =
+    tie.close
+    (tie.spec (λ c κs. search needs) (λ c. search needs) returns (λ c. search needs) decide-requires returns-2)

@@ -1,0 +1,28 @@
+-- `kernel::prescribe_checked` meets its contract. Assumes nothing.
+use mathlib.Core.Path.{sym, ap, _∙_}
+use borrow.Author.Needs.{needs}
+use Rattle.rules.specs.Numbers.{answered}
+use Rattle.rules.specs.Decide.{prescribeCheckedOf}
+use Rattle.kernel.proofs.Refusals.{unless-passed, unless-refused, checked-room}
+use Rattle.kernel.proofs.calls.prescribe_checked.Statement.{statement}
+use Rattle.kernel.proofs.calls.prescribe_checked.Tie as tie
+
+returns : tie.Need-returns
+unfolding prescribeCheckedOf
+returns c =
+    let o = c .before in
+    sym (unless-refused _ _ (o .outcome .given .1) (o .before .before .checked-outcome .ensures))
+
+decide-requires : tie.Need-decide-requires
+decide-requires c κs = checked-room _ _ (c .enum-told .given .1) (c .before .before .checked-outcome .ensures)
+
+returns-2 : tie.Need-returns-2
+unfolding prescribeCheckedOf
+returns-2 c =
+    let o = c .before in
+    ap answered (c .decide .ensures) ∙ sym (unless-passed _ _ (o .enum-told .given .1) (o .before .before .checked-outcome .ensures))
+
+pub prescribe-checked-spec : {M : Type 1} → statement M
+prescribe-checked-spec =
+    tie.close
+    (tie.spec (λ c κs. search needs) (λ c. search needs) returns (λ c. search needs) decide-requires returns-2)

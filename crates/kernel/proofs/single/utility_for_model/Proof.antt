@@ -1,0 +1,27 @@
+-- `kernel::utility_for_model` meets its contract. Assumes nothing.
+use mathlib.Core.Path.{sym, _∙_}
+use borrow.Author.Needs.{needs}
+use Rattle.rules.specs.Decide.{utilityForModelOf}
+use Rattle.kernel.proofs.Refusals.{unless-passed, unless-refused, bank-room}
+use Rattle.kernel.proofs.single.utility_for_model.Statement.{statement}
+use Rattle.kernel.proofs.single.utility_for_model.Tie as tie
+
+returns : tie.Need-returns
+unfolding utilityForModelOf
+returns c =
+    let o = c .before in
+    sym (unless-refused _ _ (o .outcome .given .1) (o .before .before .bank-outcome .ensures))
+
+utility-in-requires : tie.Need-utility-in-requires
+utility-in-requires c κs = bank-room _ (c .enum-told .given .1) (c .before .before .bank-outcome .ensures)
+
+returns-2 : tie.Need-returns-2
+unfolding utilityForModelOf
+returns-2 c =
+    let o = c .before in
+    c .utility-in .ensures ∙ sym (unless-passed _ _ (o .enum-told .given .1) (o .before .before .bank-outcome .ensures))
+
+pub utility-for-model-spec : {M : Type 1} → statement M
+utility-for-model-spec =
+    tie.close
+    (tie.spec (λ c κs. search needs) (λ c. search needs) returns (λ c. search needs) utility-in-requires returns-2)

@@ -1,0 +1,23 @@
+-- `kernel::worth_of` meets its contract. Assumes nothing.
+use mathlib.Core.Path.{sym, ap, _∙_}
+use borrow.Author.Needs.{needs}
+use mir.Facts.{toZ-ofZ}
+use mir.Syntax.{w64}
+use Rattle.rules.specs.Numbers.{answered}
+use Rattle.rules.proofs.Choices.{equal-yes, equal-no}
+use Rattle.kernel.specs.Decide.{worthFrom}
+use Rattle.kernel.proofs.single.worth_of.Statement.{statement}
+use Rattle.kernel.proofs.single.worth_of.Tie as tie
+
+returns : tie.Need-returns
+unfolding worthFrom
+returns c = sym (equal-yes _ _ _ _ (c .if1 .taken))
+
+returns-2 : tie.Need-returns-2
+unfolding worthFrom
+returns-2 c =
+    let u = toZ-ofZ {w = w64} {z = c .utility-of .result} (record { sfits = c .utility-of .ok }) ∙ c .utility-of .ensures in
+    ap answered u ∙ sym (equal-no _ _ _ _ (c .before .before .before .if1 .left))
+
+pub worth-of-spec : {M : Type 1} → statement M
+worth-of-spec = tie.close (tie.spec returns (λ c κs. search needs) returns-2)

@@ -1,0 +1,38 @@
+// The decision over a bank that has another record at a place, which a search asks for at each setting.
+ghost use mathlib.Core.Path.{_≡_};
+ghost use lib.ListN.{length, set};
+ghost use Rattle.rules.specs.Records.{listed, listedOf, modelOf};
+ghost use Rattle.rules.specs.Numbers.{toldDecision};
+ghost use Rattle.rules.specs.Decide.{decisionOf};
+ghost use Rattle.scan.specs.Scan.{StandsIn};
+use crate::decide::decided;
+use crate::decide::rejected;
+use crate::stop::Stop;
+use crate::stop::stopped_by;
+use rules::KernelDecision;
+use rules::KernelInput;
+use rules::PolicySnapshot;
+use rules::limits::RECORD_BYTES;
+use scan::pricing_for;
+use scan::scan_with;
+
+// The decision over a bank in which 47 bytes stand in for the record at a place.
+pub fn decide_with(
+    policy: PolicySnapshot,
+    bank: &[u8],
+    input: KernelInput,
+    place: usize,
+    stand: &[u8],
+) -> KernelDecision
+    requires { ⌜ StandsIn (length (now bank)) place (length (now stand)) ⌝ }
+    ensures { λ r. ⌜ toldDecision r ≡ decisionOf policy input (set (listedOf (now (bank .entry))) place (listed place (modelOf (now (stand .entry))))) ⌝ }
+{
+    let stop = stopped_by(policy, input);
+    if let Stop::By(reason) = stop {
+        return rejected(policy, input, reason, 0);
+    }
+    let evaluated = (bank.len() / RECORD_BYTES) as u16;
+    let pricing = pricing_for(policy, input);
+    let state = scan_with(bank, place, stand, pricing, input);
+    decided(policy, input, state, evaluated)
+}

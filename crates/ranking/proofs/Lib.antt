@@ -1,0 +1,5 @@
+-- The laws of the order, of the ranking's first two, of what a scan holds, and of its verdicts, which callers cite.
+pub mod Orders
+pub mod Ranking
+pub mod States
+pub mod Verdicts

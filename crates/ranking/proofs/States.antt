@@ -1,0 +1,166 @@
+-- What a scan holds, record by record: one more, some more, and the sum of the counts. Assumes nothing.
+use Prim.Native.Nat.{ℕ, suc, _+_, _<_}
+use native.Mathlib.Omega.{arith}
+use mathlib.Core.Path.{_≡_, refl, _∙_}
+use mathlib.Core.Bool.{Bool, true, false, cond}
+use mathlib.Core.List.{List, [], _∷_, _++_, append-nil, append-assoc, foldl, foldl-append, map-append}
+use lib.Dec.{ltb, eqb}
+use borrow.Author.Tests.{eqb-true}
+use lib.IntN.{ℤ, pos}
+use lib.ListN.{length, length-append}
+use lib.Signed.{leZ}
+use Rattle.rules.specs.Choice.{below, equal}
+use Rattle.rules.specs.Numbers.{Verdict}
+use Rattle.rules.specs.Records.{Listed}
+use Rattle.rules.specs.Gates.{gateOf, detailOf}
+use Rattle.rules.specs.Price.{costOf}
+use Rattle.rules.specs.Utility.{utilityOf}
+use Rattle.rules.specs.Verdict.{Judged, judge, judged, rejected, overBudget, withTerms, pricedOf, verdictOf}
+use Rattle.rules.specs.Rank.{Candidate, candidateOf, insert, sorted, keep, eligibles, ranking}
+use Rattle.rules.specs.Count.{gateReason, countedFor, countsOf}
+use Rattle.rules.specs.declared.records.KernelModel.{KernelModel}
+use Rattle.rules.specs.declared.records.KernelInput.{KernelInput}
+use Rattle.rules.specs.declared.records.PolicySnapshot.{PolicySnapshot}
+use Rattle.rules.specs.declared.decision.RejectionHistogram.{RejectionHistogram}
+use Rattle.rules.specs.Count.{raisedBy, total}
+use Rattle.rules.proofs.Reasons.{reason-counted}
+use Rattle.rules.proofs.Verdicts.{Told, by-gate, by-budget, by-utility, eligible, verdict-told}
+use Rattle.rules.proofs.Counts.{judged-snoc, raised-none, total-raised}
+use Rattle.ranking.specs.State.{topOf, heldOf, stateOf, rankedOf, enteredOf, turnedAway, stepOf, runOf, startOf}
+use Rattle.ranking.specs.declared.state.State.{State}
+use Rattle.ranking.proofs.Orders.{Positive, positive}
+use Rattle.ranking.proofs.Ranking.{AllPositive, InOrder, sorted-holds, top-insert}
+
+-- ---- an eligible model's utility is above 0
+
+abbrev Worthy : ℤ → Verdict → Type 0
+Worthy u v = v .verdict ≡ 4 → Positive u
+
+abbrev Worth : Verdict → Type 0
+Worth v = Worthy (v .utility) v
+
+either : (b : Bool) (u v : Verdict) → Worth u → Worth v → Worth (cond b u v)
+either true u v h k = h
+either false u v h k = k
+
+not-four : {A : Type 0} (n : ℕ) → n < 4 → n ≡ 4 → A
+not-four n h e = absurd (omega arith)
+
+module _ (p : PolicySnapshot) (q : KernelInput) (m : KernelModel) where
+  worth-terms : (b : Bool) → leZ (utilityOf p m q) (pos 0) ≡ b → Worth (withTerms p q m (cond b 3 4))
+  worth-terms true e = not-four 3 (omega arith)
+  worth-terms false e = λ k. positive (utilityOf p m q) e
+
+  worth-priced : Worth (pricedOf p q m)
+  unfolding pricedOf
+  worth-priced = worth-terms (leZ (utilityOf p m q) (pos 0)) refl
+
+  pub verdict-worth : verdictOf p q m .verdict ≡ 4 → Positive (verdictOf p q m .utility)
+  unfolding verdictOf below
+  verdict-worth =
+      either (ltb 0 (gateOf m q)) (rejected (gateOf m q) (detailOf m q (gateOf m q))) _ (not-four 1 (omega arith))
+      (either (ltb (q .«budget_limit_microunits») (costOf m q)) (overBudget (costOf m q) (q .«budget_limit_microunits»)) _ (not-four 2 (omega arith)) worth-priced)
+
+module _ (p : PolicySnapshot) (q : KernelInput) where
+  kept-positive : (l : Listed) (cs : List Candidate) → AllPositive cs → AllPositive (keep (judge p q l) cs)
+  unfolding equal
+  kept-positive l cs a = go (eqb (verdictOf p q (l .model) .verdict) 4) refl
+    where
+      go : (t : Bool) → eqb (verdictOf p q (l .model) .verdict) 4 ≡ t → AllPositive (cond t (candidateOf (judge p q l) ∷ cs) cs)
+      go true e = (verdict-worth p q (l .model) (eqb-true _ _ e), a)
+      go false e = a
+
+  eligibles-positive : (ls : List Listed) → AllPositive (eligibles (judged p q ls))
+  eligibles-positive [] = tt
+  eligibles-positive (l ∷ ls) = kept-positive l (eligibles (judged p q ls)) (eligibles-positive ls)
+
+  pub ranking-holds : (ls : List Listed) → AllPositive (ranking (judged p q ls)) × InOrder (ranking (judged p q ls))
+  unfolding ranking
+  ranking-holds ls = sorted-holds (eligibles (judged p q ls)) [] tt tt (eligibles-positive ls)
+
+-- ---- one record more
+
+counted-eligible : (v : Verdict) → v .verdict ≡ 4 → countedFor v ≡ 0
+unfolding countedFor
+counted-eligible v e = rw e
+
+kept-append : (j : Judged) (cs ds : List Candidate) → keep j (cs ++ ds) ≡ keep j cs ++ ds
+unfolding equal
+kept-append j cs ds = go (eqb (j .verdict .verdict) 4)
+  where
+    go : (t : Bool) → cond t (candidateOf j ∷ cs ++ ds) (cs ++ ds) ≡ cond t (candidateOf j ∷ cs) cs ++ ds
+    go true = refl
+    go false = refl
+
+eligibles-snoc : (js : List Judged) (j : Judged) → eligibles (js ++ j ∷ []) ≡ eligibles js ++ keep j []
+eligibles-snoc [] j = refl
+eligibles-snoc (x ∷ js) j = rw (eligibles-snoc js j) (kept-append x (eligibles js) (keep j []))
+
+-- what is held after one record more, the test of its verdict being t
+module _ (counts : RejectionHistogram) (es : List Candidate) (c : Candidate) (v : Verdict) where
+  one-more : (t : Bool) → eqb (v .verdict) 4 ≡ t → Worthy (c .utility) v → AllPositive (sorted es) × InOrder (sorted es) → _≡_ {A = State}
+      (record { counts = raisedBy counts (countedFor v); top = topOf (sorted (es ++ cond t (c ∷ []) [])); eligible = length (es ++ cond t (c ∷ []) []) })
+      (cond t
+      (record { counts = counts; top = rankedOf (topOf (sorted es)) (heldOf c); eligible = length es + 1 })
+      (record { counts = raisedBy counts (countedFor v); top = topOf (sorted es); eligible = length es }))
+  one-more true e worth holds =
+      let four : v .verdict ≡ 4 = eqb-true _ _ e in
+      rw (
+        counted-eligible v four,
+        raised-none counts,
+        foldl-append insert [] es (c ∷ []),
+        top-insert (sorted es) c (holds .0) (holds .1) (worth four),
+        length-append es (c ∷ []),
+      )
+  one-more false e worth holds = rw (append-nil es)
+
+module _ (p : PolicySnapshot) (q : KernelInput) where
+  judged-append : (ls ks : List Listed) → judged p q (ls ++ ks) ≡ judged p q ls ++ judged p q ks
+  judged-append ls ks = map-append (judge p q) ls ks
+
+  -- ONE RECORD MORE IS ONE STEP
+  pub state-snoc : (ls : List Listed) (l : Listed) → stateOf (judged p q (ls ++ l ∷ [])) ≡ stepOf (stateOf (judged p q ls)) (judge p q l)
+  unfolding stateOf stepOf enteredOf turnedAway ranking equal
+  state-snoc ls l =
+      let js = judged p q ls in
+      let j = judge p q l in
+      rw (judged-append ls (l ∷ []), judged-snoc js j, eligibles-snoc js j)
+      (one-more (countsOf js) (eligibles js) (candidateOf j) (j .verdict) (eqb (j .verdict .verdict) 4) refl (verdict-worth p q (l .model)) (ranking-holds p q ls))
+
+-- ---- some records more
+
+-- One record more is one more in the counts, or one more that is eligible
+step-sum : (s : State) (j : Judged) → Told (j .verdict) → total (stepOf s j .counts) + stepOf s j .eligible ≡ suc (total (s .counts) + s .eligible)
+unfolding stepOf enteredOf turnedAway equal countedFor
+step-sum s j (by-gate e lo hi) =
+    let b = reason-counted (j .verdict .gate) lo hi in
+    rw e (omega (arith, total-raised (s .counts) (gateReason (j .verdict .gate)) (b .0) (b .1)))
+step-sum s j (by-budget e) = rw e (omega (arith, total-raised (s .counts) 108 (omega arith) (omega arith)))
+step-sum s j (by-utility e) = rw e (omega (arith, total-raised (s .counts) 109 (omega arith) (omega arith)))
+step-sum s j (eligible e) = rw e (omega arith)
+
+-- THE COUNTS AND THE ELIGIBLE MODELS GROW BY THE RECORDS, where each step makes them grow by one
+pub fold-sum : (step : State → Listed → State) → ((s : State) (l : Listed) → total (step s l .counts) + step s l .eligible ≡ suc (total (s .counts) + s .eligible))
+    → (s : State) (ls : List Listed) → total (foldl step s ls .counts) + foldl step s ls .eligible ≡ total (s .counts) + s .eligible + length ls
+fold-sum step grows s [] = omega arith
+fold-sum step grows s (l ∷ ls) = fold-sum step grows (step s l) ls ∙ omega (arith, grows s l)
+
+module _ (p : PolicySnapshot) (q : KernelInput) where
+  -- A RUN OVER TWO LISTS IS ONE AFTER THE OTHER
+  pub run-append : (s : State) (ls ks : List Listed) → runOf p q s (ls ++ ks) ≡ runOf p q (runOf p q s ls) ks
+  unfolding runOf
+  run-append s ls ks = foldl-append (λ s l. stepOf s (judge p q l)) s ls ks
+
+  -- THE NINE COUNTS AND THE ELIGIBLE MODELS TOGETHER ARE THE RECORDS
+  pub run-sum : (s : State) (ls : List Listed) → total (runOf p q s ls .counts) + runOf p q s ls .eligible ≡ total (s .counts) + s .eligible + length ls
+  unfolding runOf
+  run-sum s ls = fold-sum (λ s l. stepOf s (judge p q l)) (λ s l. step-sum s (judge p q l) (verdict-told p q (l .model))) s ls
+
+  -- FROM WHAT SOME RECORDS COME TO, A RUN GIVES WHAT ALL COME TO
+  pub run-state : (ls ks : List Listed) → runOf p q (stateOf (judged p q ls)) ks ≡ stateOf (judged p q (ls ++ ks))
+  unfolding runOf
+  run-state ls [] = rw append-nil
+  run-state ls (k ∷ ks) = rw (← state-snoc p q ls k) (run-state (ls ++ k ∷ []) ks ∙ rw append-assoc)
+
+  pub run-start : (ls : List Listed) → runOf p q startOf ls ≡ stateOf (judged p q ls)
+  run-start ls = run-state [] ls

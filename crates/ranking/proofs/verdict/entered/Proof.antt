@@ -1,0 +1,12 @@
+-- `ranking::entered` meets its contract. Assumes nothing.
+use mathlib.Core.Path.{refl}
+use Rattle.ranking.specs.Verdict.{enteringOf}
+use Rattle.ranking.proofs.verdict.entered.Statement.{statement}
+use Rattle.ranking.proofs.verdict.entered.Tie as tie
+
+returns : tie.Need-returns
+unfolding enteringOf
+returns c = refl
+
+pub entered-spec : {M : Type 1} → statement M
+entered-spec = tie.close (tie.spec returns)

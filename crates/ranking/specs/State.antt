@@ -1,0 +1,83 @@
+-- What a scan holds, as the rules say it, and one record more as the code takes it.
+use Prim.Native.Nat.{ℕ, _+_, _^_}
+use mathlib.Core.Bool.{Bool, false, cond}
+use mathlib.Core.List.{List, [], _∷_, foldl}
+use lib.ListN.{length}
+use Rattle.rules.specs.Limits.{noPlace}
+use Rattle.rules.specs.Choice.{lower}
+use Rattle.rules.specs.Records.{Listed}
+use Rattle.rules.specs.Numbers.{whereEligible}
+use Rattle.rules.specs.Verdict.{Judged, judge}
+use Rattle.rules.specs.Rank as rank
+use Rattle.rules.specs.Count.{countedFor, countsOf}
+use Rattle.rules.specs.declared.records.KernelInput.{KernelInput}
+use Rattle.rules.specs.declared.records.PolicySnapshot.{PolicySnapshot}
+use Rattle.rules.specs.Count.{raisedBy}
+use Rattle.pricing.specs.Score.{scored}
+use Rattle.ranking.specs.declared.state.Candidate.{Candidate}
+use Rattle.ranking.specs.declared.state.Top.{Top}
+use Rattle.ranking.specs.declared.state.State.{State}
+
+-- A candidate of the rules as the scan holds it
+unfoldable pub heldOf : rank.Candidate → Candidate
+heldOf c =
+    record {
+      «model_id» = c .id;
+      «model_index» = c .place;
+      «quality_bps» = c .quality;
+      cost = c .cost;
+      score = scored (c .utility);
+    }
+
+-- Nobody: what a rejection shows, and below every eligible model
+unfoldable pub nobody : Candidate
+nobody = record { «model_id» = 0; «model_index» = noPlace; «quality_bps» = 0; cost = 0; score = 2 ^ 63 }
+
+abbrev pub topTwo : Candidate → Candidate → Top
+topTwo best second = record { best = best; second = second }
+
+-- D22. The first two of a ranking
+abbrev pub topOf : List rank.Candidate → Top
+topOf [] = topTwo nobody nobody
+topOf (x ∷ []) = topTwo (heldOf x) nobody
+topOf (x ∷ y ∷ zs) = topTwo (heldOf x) (heldOf y)
+
+-- What the records judged so far come to
+unfoldable pub stateOf : List Judged → State
+stateOf js = record { counts = countsOf js; top = topOf (rank.ranking js); eligible = length (rank.eligibles js) }
+
+-- ---- one record more
+
+-- D22. Higher score, lower cost, higher quality, lower id, earlier place
+unfoldable pub earlierOf : Candidate → Candidate → Bool
+earlierOf a b = lower (a .«model_id») (b .«model_id») (lower (a .«model_index») (b .«model_index») false)
+
+unfoldable pub cheaperOf : Candidate → Candidate → Bool
+cheaperOf a b = lower (a .cost) (b .cost) (lower (b .«quality_bps») (a .«quality_bps») (earlierOf a b))
+
+unfoldable pub betterOf : Candidate → Candidate → Bool
+betterOf a b = lower (b .score) (a .score) (cheaperOf a b)
+
+-- The second place first: most candidates end there
+unfoldable pub rankedOf : Top → Candidate → Top
+rankedOf t c =
+    cond (betterOf c (t .second)) (cond (betterOf c (t .best)) (topTwo c (t .best)) (topTwo (t .best) c)) t
+
+-- The state with one record more that is eligible, and with one that is not
+unfoldable pub enteredOf : State → Candidate → State
+enteredOf s c = record { counts = s .counts; top = rankedOf (s .top) c; eligible = s .eligible + 1 }
+
+unfoldable pub turnedAway : State → ℕ → State
+turnedAway s reason = record { counts = raisedBy (s .counts) reason; top = s .top; eligible = s .eligible }
+
+unfoldable pub stepOf : State → Judged → State
+stepOf s j =
+    whereEligible (j .verdict) (enteredOf s (heldOf (rank.candidateOf j))) (turnedAway s (countedFor (j .verdict)))
+
+-- The state after some listed records more
+unfoldable pub runOf : PolicySnapshot → KernelInput → State → List Listed → State
+runOf p q s ls = foldl (λ s l. stepOf s (judge p q l)) s ls
+
+-- The state before the first record
+abbrev pub startOf : State
+startOf = stateOf []

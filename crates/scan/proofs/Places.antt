@@ -1,0 +1,140 @@
+-- The records of a part of a bank: how many there are, which they are, and what two parts come to. Assumes nothing.
+use Prim.Native.Nat.{ℕ, zero, suc, _+_, _-_, _*_, _/_, _<_, _≤_}
+use native.Mathlib.Nat.{add-zero, zero-add, add-suc, suc-add, le-of-suc-le-suc, not-suc-le-zero}
+use native.Mathlib.Omega.{arith}
+use mathlib.Core.Path.{_≡_, refl, sym, ap, _∙_}
+use mathlib.Core.Bool.{Bool, true, false}
+use mathlib.Core.List.{List, [], _∷_, _++_, append-assoc}
+use borrow.Author.Tests.{ltb-true, ltb-false}
+use lib.Dec.{ltb}
+use lib.ListN.{length, getD, take, drop, set, length-append, length-map, length-drop, take-append-drop, List·getD-append, List·getD-map}
+use lib.Seq.{length-take-le, take-append-le, drop-append-le, drop-append-add, drop-drop, getD-append-add, ext-getD, set-at, take-all}
+use Rattle.rules.specs.Records.{Listed, listed, listedFrom, listedOf, modelOf, modelAt}
+use Rattle.scan.specs.Places.{onward, placedFrom}
+
+-- What stands past the end of a list of records
+abbrev pub nowhere : Listed
+nowhere = listed 0 (modelOf [])
+
+length-from : (bank : List ℕ) (i k : ℕ) → length (listedFrom bank i k) ≡ k
+length-from bank i zero = refl
+length-from bank i (suc k) = ap suc (length-from bank (suc i) k)
+
+getD-from : (bank : List ℕ) (i k j : ℕ) (d : Listed) → j < k → getD (listedFrom bank i k) j d ≡ listed (i + j) (modelAt bank (i + j))
+getD-from bank i zero j d h = absurd (not-suc-le-zero h)
+getD-from bank i (suc k) zero d h = rw add-zero
+getD-from bank i (suc k) (suc j) d h = rw (add-suc, ← suc-add i j) (getD-from bank (suc i) k j d (le-of-suc-le-suc h))
+
+-- A BANK'S RECORDS: so many, each at its place
+pub length-listed : (bank : List ℕ) → length (listedOf bank) ≡ length bank / 47
+unfolding listedOf
+length-listed bank = length-from bank 0 (length bank / 47)
+
+pub getD-listed : (bank : List ℕ) (i : ℕ) (d : Listed) → i < length bank / 47 → getD (listedOf bank) i d ≡ listed i (modelAt bank i)
+unfolding listedOf
+getD-listed bank i d h = rw (getD-from bank 0 (length bank / 47) i d h, zero-add)
+
+-- A PART'S RECORDS: as many, each so many places further on
+pub length-placed : (first : ℕ) (part : List ℕ) → length (placedFrom first part) ≡ length part / 47
+unfolding placedFrom
+length-placed first part = length-map (listedOf part) (onward first) ∙ length-listed part
+
+-- below the end no default is looked at
+getD-any : (ls : List Listed) (i : ℕ) (d e : Listed) → i < length ls → getD ls i d ≡ getD ls i e
+getD-any [] i d e h = absurd (not-suc-le-zero h)
+getD-any (l ∷ ls) zero d e h = refl
+getD-any (l ∷ ls) (suc i) d e h = getD-any ls i d e (le-of-suc-le-suc h)
+
+getD-moved : (first : ℕ) (part : List ℕ) (i : ℕ) → i < length part / 47 → getD (placedFrom first part) i (onward first nowhere) ≡ listed (first + i) (modelAt part i)
+unfolding placedFrom
+getD-moved first part i h = List·getD-map (onward first) (listedOf part) i nowhere ∙ ap (onward first) (getD-listed part i nowhere h)
+
+pub getD-placed : (first : ℕ) (part : List ℕ) (i : ℕ) (d : Listed) → i < length part / 47 → getD (placedFrom first part) i d ≡ listed (first + i) (modelAt part i)
+getD-placed first part i d h =
+    getD-any (placedFrom first part) i d (onward first nowhere) (rw (length-placed first part) h) ∙ getD-moved first part i h
+
+-- THE WHOLE BANK IS THE PART WHOSE FIRST RECORD HAS PLACE 0
+pub placed-all : (bank : List ℕ) → placedFrom 0 bank ≡ listedOf bank
+placed-all bank =
+    ext-getD nowhere (placedFrom 0 bank) (listedOf bank) (length-placed 0 bank ∙ sym (length-listed bank))
+    λ i h. let k : i < length bank / 47 = rw length-placed at h in
+    rw (getD-placed 0 bank i nowhere k, getD-listed bank i nowhere k, zero-add)
+
+-- ---- two parts
+
+module _ (a b : List ℕ) (n : ℕ) (whole : length a ≡ 47 * n) where
+  model-first : (i : ℕ) → i < n → modelAt (a ++ b) i ≡ modelAt a i
+  model-first i h =
+      rw (drop-append-le (47 * i) a b (omega arith), take-append-le 47 (drop (47 * i) a) b (simp length-drop (omega arith)))
+
+  model-second : (j : ℕ) → modelAt (a ++ b) (n + j) ≡ modelAt b j
+  model-second j =
+      let e : 47 * (n + j) ≡ length a + 47 * j = omega arith in
+      rw (e, drop-append-add a b (47 * j))
+
+  -- A PART AFTER WHOLE RECORDS: its places go on from theirs
+  pub placed-append : (first : ℕ) → placedFrom first (a ++ b) ≡ placedFrom first a ++ placedFrom (first + n) b
+  placed-append first =
+      ext-getD nowhere (placedFrom first (a ++ b)) (placedFrom first a ++ placedFrom (first + n) b)
+      (simp (length-append, length-placed) (omega arith))
+      λ i h. let k : i < length (a ++ b) / 47 = rw length-placed at h in
+      rw (getD-placed first (a ++ b) i nowhere k) (at i (rw length-append at k) (ltb i n) refl)
+    where
+      m : length (placedFrom first a) ≡ n
+      m = length-placed first a ∙ omega arith
+
+      at : (i : ℕ) → i < (length a + length b) / 47 → (t : Bool) → ltb i n ≡ t → listed (first + i) (modelAt (a ++ b) i) ≡ getD (placedFrom first a ++ placedFrom (first + n) b) i nowhere
+      at i k true e =
+          let h : i < n = ltb-true i n e in
+          rw (
+            List·getD-append (placedFrom first a) (placedFrom (first + n) b) nowhere i (rw m h),
+            getD-placed first a i nowhere (omega arith),
+            model-first i h,
+          )
+      at i k false e =
+          let h : n ≤ i = ltb-false i n e in
+          let x : i ≡ n + (i - n) = omega arith in
+          let y : i ≡ length (placedFrom first a) + (i - n) = rw m x in
+          let g : getD (placedFrom first a ++ placedFrom (first + n) b) i nowhere ≡ listed (first + n + (i - n)) (modelAt b (i - n)) =
+          ap (λ z. getD (placedFrom first a ++ placedFrom (first + n) b) z nowhere) y
+          ∙ getD-append-add (placedFrom first a) (placedFrom (first + n) b) (i - n) nowhere
+          ∙ getD-placed (first + n) b (i - n) nowhere (omega arith) in
+          let f : first + i ≡ first + n + (i - n) = omega arith in
+          let w : modelAt (a ++ b) i ≡ modelAt b (i - n) = ap (modelAt (a ++ b)) x ∙ model-second (i - n) in
+          rw (f, w) (sym g)
+
+-- ONE RECORD
+pub placed-one : (first : ℕ) (part : List ℕ) → length part ≡ 47 → placedFrom first part ≡ listed first (modelOf part) ∷ []
+placed-one first part e =
+    ext-getD nowhere (placedFrom first part) (listed first (modelOf part) ∷ []) (rw (length-placed, e))
+    λ i h. let k : i < 1 = rw (length-placed, e) at h in
+    let z : i ≡ 0 = omega arith in
+    rw (z, getD-placed first part 0 nowhere (rw e (omega arith)), add-zero, take-all 47 part (omega arith))
+
+-- ---- another record in the stead of one
+
+module _ (bank : List ℕ) (place : ℕ) (inside : place < length bank / 47) where
+  before-length : length (take (47 * place) bank) ≡ 47 * place
+  before-length = length-take-le (47 * place) bank (omega arith)
+
+  here-length : length (take 47 (drop (47 * place) bank)) ≡ 47
+  here-length = length-take-le 47 (drop (47 * place) bank) (simp length-drop (omega arith))
+
+  -- a bank: the records before a place, the one there, and those after it
+  pub listed-split : listedOf bank ≡ placedFrom 0 (take (47 * place) bank) ++ listed place (modelAt bank place) ∷ placedFrom (place + 1) (drop (47 * place + 47) bank)
+  listed-split =
+      let r = drop (47 * place) bank in
+      let one : placedFrom place (take 47 r) ≡ listed place (modelAt bank place) ∷ [] = placed-one place (take 47 r) here-length in
+      let rest : placedFrom place r ≡ listed place (modelAt bank place) ∷ placedFrom (place + 1) (drop (47 * place + 47) bank) =
+      ap (placedFrom place) (sym (take-append-drop 47 r)) ∙ placed-append (take 47 r) (drop 47 r) 1 here-length place ∙ rw (one, drop-drop 47 (47 * place) bank) in
+      sym (placed-all bank) ∙ ap (placedFrom 0) (sym (take-append-drop (47 * place) bank))
+      ∙ placed-append (take (47 * place) bank) r place before-length 0 ∙ rw (zero-add, rest)
+
+  -- A BANK WITH ANOTHER RECORD AT A PLACE: the part before it, the record's bytes, the part after it
+  pub placed-set : (stand : List ℕ) → length stand ≡ 47 → set (listedOf bank) place (listed place (modelOf stand)) ≡ placedFrom 0 (take (47 * place) bank) ++ placedFrom place stand ++ placedFrom (place + 1) (drop (47 * place + 47) bank)
+  placed-set stand e =
+      let before = placedFrom 0 (take (47 * place) bank) in
+      let after = placedFrom (place + 1) (drop (47 * place + 47) bank) in
+      ap (λ ls. set ls place (listed place (modelOf stand))) listed-split
+      ∙ set-at before (listed place (modelAt bank place)) after (listed place (modelOf stand)) place (length-placed 0 (take (47 * place) bank) ∙ rw before-length (omega arith))
+      ∙ rw (placed-one place stand e, append-assoc)
