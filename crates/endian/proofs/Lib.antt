@@ -4,3 +4,4 @@ pub mod Spelled
 pub mod Stored
 pub mod Signs
 pub mod Limbs
+pub mod Trips

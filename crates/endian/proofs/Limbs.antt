@@ -1,27 +1,15 @@
 -- A number of two limbs in sixteen bytes. Assumes nothing.
-use Prim.Native.Nat.{ℕ, _+_, _*_, _/_, _%_, _^_, _≤_, _<_}
+use Prim.Native.Nat.{ℕ, _+_, _*_, _^_, _≤_, _<_}
 use mathlib.Core.List.{List, _++_}
 use mathlib.Core.Path.{_≡_, ap}
 use native.Mathlib.Omega.{arith}
 use lib.ListN.{length, take, drop, length-take, length-drop}
 use lib.Seq.{take-add, drop-drop}
 use Rattle.rules.specs.Bytes.{number, bytesOf}
-use Rattle.rules.specs.Wide.{limbs, val, wideOf}
+use Rattle.rules.specs.Wide.{limbs}
 use Rattle.endian.specs.Put.{patched}
 use Rattle.endian.proofs.Numbers.{number-join, bytes-join, length-bytes}
 use Rattle.endian.proofs.Stored.{patch-join}
-
--- A number's limbs say it, and two limbs are those of the number that they say
-pub val-wide : (n : ℕ) → val (wideOf n) ≡ n
-unfolding limbs wideOf
-val-wide n = omega arith
-
-pub wide-limbs : (hi lo : ℕ) → lo < 2 ^ 64 → wideOf (limbs hi lo) ≡ record { hi = hi; lo = lo }
-unfolding limbs wideOf
-wide-limbs hi lo h =
-    let e : (hi * 2 ^ 64 + lo) / 2 ^ 64 ≡ hi = omega arith in
-    let f : (hi * 2 ^ 64 + lo) % 2 ^ 64 ≡ lo = omega arith in
-    λ i. record { hi = e i; lo = f i }
 
 -- SIXTEEN BYTES ARE EIGHT OF THE LOW LIMB AND EIGHT OF THE HIGH ONE, in a list that is read
 pub number-limbs : (s : List ℕ) (at : ℕ) → at + 16 ≤ length s → number (take 16 (drop at s)) ≡ limbs (number (take 8 (drop (at + 8) s))) (number (take 8 (drop at s)))

@@ -2,10 +2,9 @@
 // A gate is its number, 1 to 8, in the order of document 01; 0 stands for none.
 ghost use mathlib.Core.Path.{_≡_};
 ghost use Prim.Native.Nat.{_<_, _≤_};
-ghost use Rattle.rules.specs.Limits.{maxProviderId};
+ghost use Rattle.rules.specs.Limits.{maxCatalogModels, maxProviderId};
 ghost use Rattle.rules.specs.Gates.{isSlow, isUnable, isBarred, isElsewhere, gateOf, detail, detailOf};
-ghost use Rattle.rules.specs.Count.{gateReason};
-ghost use Rattle.rules.specs.Count.{raisedBy, total};
+ghost use Rattle.rules.specs.Count.{gateReason, raisedBy, total};
 use rules::GateDetail;
 use rules::KernelInput;
 use rules::KernelModel;
@@ -87,7 +86,7 @@ pub fn gate_detail(model: KernelModel, input: KernelInput, gate: u8) -> GateDeta
     ensures { λ r. ⌜ r ≡ detailOf model input gate ⌝ }
 {
     match gate {
-        // No comparison: the catalogue switched the model off.
+        // Nothing is measured against a switch: always 0 and 1.
         1 => compared(0, 1),
         2 => compared(model.quality_bps as u64, input.minimum_quality_bps as u64),
         3 => compared(model.p95_latency_ms as u64, input.max_p95_latency_ms as u64),
@@ -95,7 +94,7 @@ pub fn gate_detail(model: KernelModel, input: KernelInput, gate: u8) -> GateDeta
         5 => compared(model.provider_id as u64, MAX_PROVIDER_ID as u64),
         6 => compared(model.provider_id as u64, input.allowed_provider_mask),
         7 => compared(model.region_mask, input.required_region_mask),
-        // Turned round: the request carries the risk, the model the ceiling.
+        // Here the number measured is the request's, and the model sets the limit.
         8 => compared(input.risk_bps as u64, model.risk_ceiling_bps as u64),
         _ => compared(0, 0),
     }
@@ -104,7 +103,7 @@ pub fn gate_detail(model: KernelModel, input: KernelInput, gate: u8) -> GateDeta
 // `bump`: the counts with the one that a failed gate raises one higher. Gates 5 and 6 share the provider's.
 // No count can overflow where the nine together are below 65,535; a number that is no gate's raises none.
 pub fn raised(counts: RejectionHistogram, gate: u8) -> RejectionHistogram
-    requires { ⌜ total counts < 65535 ⌝ }
+    requires { ⌜ total counts < maxCatalogModels ⌝ }
     ensures { λ r. ⌜ r ≡ raisedBy counts (gateReason gate) ⌝ }
 {
     let mut next = counts;
@@ -123,7 +122,7 @@ pub fn raised(counts: RejectionHistogram, gate: u8) -> RejectionHistogram
 
 // The counts with one more record that is over its budget.
 pub fn raised_for_budget(counts: RejectionHistogram) -> RejectionHistogram
-    requires { ⌜ total counts < 65535 ⌝ }
+    requires { ⌜ total counts < maxCatalogModels ⌝ }
     ensures { λ r. ⌜ r ≡ raisedBy counts 108 ⌝ }
 {
     let mut next = counts;
@@ -133,7 +132,7 @@ pub fn raised_for_budget(counts: RejectionHistogram) -> RejectionHistogram
 
 // The counts with one more record that has no positive utility.
 pub fn raised_for_utility(counts: RejectionHistogram) -> RejectionHistogram
-    requires { ⌜ total counts < 65535 ⌝ }
+    requires { ⌜ total counts < maxCatalogModels ⌝ }
     ensures { λ r. ⌜ r ≡ raisedBy counts 109 ⌝ }
 {
     let mut next = counts;

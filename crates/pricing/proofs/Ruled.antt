@@ -10,7 +10,8 @@ use Rattle.rules.specs.declared.records.PolicySnapshot.{PolicySnapshot}
 use Rattle.pricing.specs.declared.ScoredTerms.{ScoredTerms}
 use Rattle.pricing.specs.Score.{unscored, scoreOf}
 use Rattle.pricing.specs.Pricing.{pricingOf, Settled, scoredTerms, termsWith}
-use Rattle.pricing.proofs.Values.{share-lt, wide-val}
+use Rattle.rules.proofs.Limbs.{wide-val}
+use Rattle.pricing.proofs.Values.{share-lt}
 use Rattle.pricing.proofs.Scores.{score-stands, three-losses}
 
 -- a pricing of a policy and a request whose numbers are those of their types is settled

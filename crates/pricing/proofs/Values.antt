@@ -1,15 +1,15 @@
 -- How large products and terms are, and which limbs a number has. Assumes nothing.
 use mathlib.Core.Path.{_≡_, sym, ap, _∙_}
-use Prim.Native.Nat.{ℕ, _+_, _-_, _*_, _/_, _%_, _^_, _<_, _≤_}
-use native.Mathlib.Nat.{mul-le-mul, lt-of-not-le, le-of-suc-le-suc, mul-assoc, mul-add-div-right, mul-add-mod-self-right, div-eq-of-lt, mod-eq-of-lt, div-add-mod'}
+use Prim.Native.Nat.{ℕ, _+_, _-_, _*_, _/_, _^_, _<_, _≤_}
+use native.Mathlib.Nat.{mul-le-mul, lt-of-not-le, le-of-suc-le-suc, mul-assoc}
 use native.Mathlib.Omega.{arith}
 use native.Mathlib.Decide.{decLt}
-use lib.Pow.{le-ones, pow-pos}
-use Rattle.limbs.proofs.Limbs.{limbs-is}
+use lib.Pow.{le-ones}
+use Rattle.rules.proofs.Limbs.{wide-back}
 use Rattle.rules.proofs.Choices.{below-yes, below-no}
 use Rattle.rules.specs.Limits.{scaledBasisPoints, maxU64}
 use Rattle.rules.specs.Utility.{shareOf}
-use Rattle.rules.specs.Wide.{val, limbs, wideOf}
+use Rattle.rules.specs.Wide.{val, wideOf}
 use Rattle.rules.specs.declared.wide.Wide.{Wide}
 use Rattle.pricing.specs.Pricing.{prefixOf}
 
@@ -41,24 +41,6 @@ prefix-share v a b n e h = ap (λ k. k * b / scaledBasisPoints) (e ∙ prefix-ca
 
 -- ---- the limbs of a number
 
--- two digits in a base P, from the number
-upper : (P h l : ℕ) → 0 < P → l < P → (h * P + l) / P ≡ h
-upper P h l p q = mul-add-div-right p h l ∙ omega (arith, div-eq-of-lt q)
-
-lower : (P h l : ℕ) → l < P → (h * P + l) % P ≡ l
-lower P h l q = mul-add-mod-self-right h P l ∙ mod-eq-of-lt q
-
 -- limbs that stand for n are the limbs of n
 pub wide-is : (w : Wide) (n : ℕ) → w .lo < 2 ^ 64 → val w ≡ n → w ≡ wideOf n
-unfolding wideOf
-wide-is w n p e =
-    let f : n ≡ w .hi * 2 ^ 64 + w .lo = sym e ∙ limbs-is (w .hi) (w .lo) in
-    λ i. record {
-      hi = (sym (upper (2 ^ 64) (w .hi) (w .lo) (pow-pos 64) p) ∙ ap (λ k. k / 2 ^ 64) (sym f)) i;
-      lo = (sym (lower (2 ^ 64) (w .hi) (w .lo) p) ∙ ap (λ k. k % 2 ^ 64) (sym f)) i;
-    }
-
--- the limbs of n stand for n
-pub wide-val : (n : ℕ) → val (wideOf n) ≡ n
-unfolding wideOf
-wide-val n = limbs-is (n / 2 ^ 64) (n % 2 ^ 64) ∙ div-add-mod' n (2 ^ 64)
+wide-is w n p e = sym (wide-back w p) ∙ ap wideOf e

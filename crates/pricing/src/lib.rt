@@ -19,7 +19,7 @@ pub(crate) const HALF: u64 = 0x1_0000_0000;
 pub(crate) const PREFIX_LIMIT: u64 = 0x1_0000_0000_0000;
 
 // What a policy and a request settle once, for every model: the Rust's `Pricing`. `quality_prefix` is the value times the
-// confidence, or the highest u64, and so says whether that product fits.
+// confidence where the value is below 2^48, else the highest u64: it tells which of the two ways a quality term goes.
 pub struct Pricing {
     pub value: u64,
     pub confidence_bps: u16,

@@ -26,7 +26,8 @@ fn gained(value: i64) -> u64
     value as u64
 }
 
-// A value times a share where that fits for every share, else the highest u64: the Rust's `quality_prefix`.
+// A value times a share where the value is below 2^48, so that it fits for every share; else the highest u64. It stands in
+// place of the Rust's `quality_prefix`, which asks the catalogue's highest quality.
 fn prefix_of(value: u64, share: u16) -> u64
     ensures { λ r. ⌜ r ≡ prefixOf value share ⌝ }
 {

@@ -17,12 +17,11 @@ use Rattle.rules.specs.Price.{costOf}
 use Rattle.rules.specs.Utility.{utilityOf}
 use Rattle.rules.specs.Verdict.{Judged, judge, judged, rejected, overBudget, withTerms, pricedOf, verdictOf}
 use Rattle.rules.specs.Rank.{Candidate, candidateOf, insert, sorted, keep, eligibles, ranking}
-use Rattle.rules.specs.Count.{gateReason, countedFor, countsOf}
+use Rattle.rules.specs.Count.{gateReason, countedFor, countsOf, raisedBy, total}
 use Rattle.rules.specs.declared.records.KernelModel.{KernelModel}
 use Rattle.rules.specs.declared.records.KernelInput.{KernelInput}
 use Rattle.rules.specs.declared.records.PolicySnapshot.{PolicySnapshot}
 use Rattle.rules.specs.declared.decision.RejectionHistogram.{RejectionHistogram}
-use Rattle.rules.specs.Count.{raisedBy, total}
 use Rattle.rules.proofs.Reasons.{reason-counted}
 use Rattle.rules.proofs.Verdicts.{Told, by-gate, by-budget, by-utility, eligible, verdict-told}
 use Rattle.rules.proofs.Counts.{judged-snoc, raised-none, total-raised}

@@ -16,11 +16,10 @@ use Rattle.rules.specs.Gates.{gateOf, detailOf}
 use Rattle.rules.specs.Price.{costOf}
 use Rattle.rules.specs.Utility.{utilityOf}
 use Rattle.rules.specs.Verdict as rules
-use Rattle.rules.specs.Count.{gateReason, countedFor}
+use Rattle.rules.specs.Count.{gateReason, countedFor, total}
 use Rattle.rules.specs.declared.records.KernelModel.{KernelModel}
 use Rattle.rules.specs.declared.records.KernelInput.{KernelInput}
 use Rattle.rules.specs.declared.records.PolicySnapshot.{PolicySnapshot}
-use Rattle.rules.specs.Count.{total}
 use Rattle.rules.proofs.Reasons.{reason-counted}
 use Rattle.rules.proofs.Verdicts.{gate-high}
 use Rattle.rules.proofs.Counts.{total-raised}

@@ -9,10 +9,9 @@ use Rattle.rules.specs.Records.{Listed}
 use Rattle.rules.specs.Numbers.{whereEligible}
 use Rattle.rules.specs.Verdict.{Judged, judge}
 use Rattle.rules.specs.Rank as rank
-use Rattle.rules.specs.Count.{countedFor, countsOf}
+use Rattle.rules.specs.Count.{countedFor, countsOf, raisedBy}
 use Rattle.rules.specs.declared.records.KernelInput.{KernelInput}
 use Rattle.rules.specs.declared.records.PolicySnapshot.{PolicySnapshot}
-use Rattle.rules.specs.Count.{raisedBy}
 use Rattle.pricing.specs.Score.{scored}
 use Rattle.ranking.specs.declared.state.Candidate.{Candidate}
 use Rattle.ranking.specs.declared.state.Top.{Top}

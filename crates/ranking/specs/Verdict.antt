@@ -5,11 +5,10 @@ use Rattle.rules.specs.Choice.{below}
 use Rattle.rules.specs.Records.{Listed}
 use Rattle.rules.specs.Gates.{gateOf}
 use Rattle.rules.specs.Price.{costOf}
-use Rattle.rules.specs.Count.{gateReason}
+use Rattle.rules.specs.Count.{gateReason, raisedBy}
 use Rattle.rules.specs.declared.records.KernelModel.{KernelModel}
 use Rattle.rules.specs.declared.records.KernelInput.{KernelInput}
 use Rattle.rules.specs.declared.decision.RejectionHistogram.{RejectionHistogram}
-use Rattle.rules.specs.Count.{raisedBy}
 use Rattle.pricing.specs.Pricing.{termsWith}
 use Rattle.pricing.specs.declared.Pricing.{Pricing}
 use Rattle.pricing.specs.declared.ScoredTerms.{ScoredTerms}

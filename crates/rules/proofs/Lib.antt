@@ -1,6 +1,7 @@
 -- Rows and vectors of document 01, by computation, and the laws that code proofs cite.
 pub mod Choices
 pub mod Told
+pub mod Limbs
 pub mod ToldVerdicts
 pub mod Verdicts
 pub mod Reasons

@@ -1,23 +1,14 @@
 -- What document 01 tells of a verdict determines it, its wide terms being made of limbs. Assumes nothing.
-use Prim.Native.Nat.{ℕ, _+_, _*_, _/_, _%_, _<_, _^_}
+use Prim.Native.Nat.{ℕ, _<_, _^_}
 use mathlib.Core.Path.{_≡_, refl, ap}
 use mathlib.Core.List.{[], _∷_}
-use native.Mathlib.Omega.{arith}
 use lib.ListN.{getD}
-use Rattle.rules.specs.Wide.{limbs, val, wideOf}
+use Rattle.rules.specs.Wide.{wideOf}
 use Rattle.rules.specs.Numbers.{Verdict, toldVerdict}
-use Rattle.rules.specs.declared.wide.Wide.{Wide}
+use Rattle.rules.proofs.Limbs.{wide-back}
 use Rattle.rules.specs.declared.verdict.UtilityTerms.{UtilityTerms}
 use Rattle.rules.specs.declared.verdict.CandidateVerdict.{CandidateVerdict}
 use Rattle.rules.specs.declared.verdict.CandidateVerdict.the-variants as verdict
-
--- the value of two limbs has these limbs
-pub wide-back : (w : Wide) → w .lo < 2 ^ 64 → wideOf (val w) ≡ w
-unfolding wideOf limbs
-wide-back w h =
-    let hi : (w .hi * 2 ^ 64 + w .lo) / 2 ^ 64 ≡ w .hi = omega arith in
-    let lo : (w .hi * 2 ^ 64 + w .lo) % 2 ^ 64 ≡ w .lo = omega arith in
-    λ i. record { hi = hi i; lo = lo i }
 
 -- the low limbs of a verdict's terms are limbs, as those of every value of the type are
 pub record Limbed (t : UtilityTerms) : Type 0 where

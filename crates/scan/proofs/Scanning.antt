@@ -7,10 +7,9 @@ use mathlib.Core.List.{List}
 use lib.ListN.{length, take}
 use lib.Seq.{take-length, take-suc, length-take-le}
 use Rattle.rules.specs.Records.{modelAt}
-use Rattle.rules.specs.Count.{countsFrom, countsOf}
+use Rattle.rules.specs.Count.{countsFrom, countsOf, total}
 use Rattle.rules.specs.declared.records.KernelModel.{KernelModel}
 use Rattle.rules.specs.declared.records.KernelInput.{KernelInput}
-use Rattle.rules.specs.Count.{total}
 use Rattle.pricing.specs.declared.Pricing.{Pricing}
 use Rattle.ranking.specs.State.{stateOf, startOf}
 use Rattle.scan.specs.Scan.{Room}

@@ -6,9 +6,8 @@ use mathlib.Core.List.{List}
 use lib.ListN.{length, take, drop, set, length-drop}
 use lib.Seq.{length-take-le, take-all}
 use Rattle.rules.specs.Records.{listed, listedOf, modelOf}
-use Rattle.rules.specs.Count.{countsFrom, countsOf}
+use Rattle.rules.specs.Count.{countsFrom, countsOf, total}
 use Rattle.rules.specs.declared.records.KernelInput.{KernelInput}
-use Rattle.rules.specs.Count.{total}
 use Rattle.pricing.specs.declared.Pricing.{Pricing}
 use Rattle.ranking.specs.State.{stateOf, startOf}
 use Rattle.scan.specs.Scan.{Room, StandsIn}

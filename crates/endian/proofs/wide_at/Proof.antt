@@ -1,7 +1,8 @@
 -- `endian::wide_at` meets its contract: sixteen bytes are eight of each limb. Assumes nothing.
 use native.Mathlib.Omega.{arith}
 use denote.Ref.{now}
-use Rattle.endian.proofs.Limbs.{number-limbs, wide-limbs}
+use Rattle.rules.proofs.Limbs.{wide-limbs}
+use Rattle.endian.proofs.Limbs.{number-limbs}
 use borrow.Author.Needs.{needs}
 use Rattle.endian.proofs.wide_at.Statement.{statement}
 use Rattle.endian.proofs.wide_at.Tie as tie

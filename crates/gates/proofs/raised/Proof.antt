@@ -1,8 +1,7 @@
 -- `gates::raised` meets its contract, arm by arm; 5 and 6 come as one range, and no gate's number on either side of 1 to 8. Assumes nothing.
 use mathlib.Core.Logic.{inl, inr}
 use Rattle.rules.specs.Choice.{equal}
-use Rattle.rules.specs.Count.{gateReason}
-use Rattle.rules.specs.Count.{raisedBy}
+use Rattle.rules.specs.Count.{gateReason, raisedBy}
 use Rattle.rules.proofs.Reasons.{past, reason-none, reason-shared}
 use borrow.Author.Needs.{needs}
 use Rattle.gates.proofs.raised.Statement.{statement}

@@ -7,7 +7,8 @@ use Rattle.rules.specs.Wide.{val}
 use Rattle.rules.specs.Utility.{shareOf}
 use Rattle.pricing.specs.Score.{scoreOf}
 use Rattle.pricing.specs.Pricing.{scoredTerms, termsWith}
-use Rattle.pricing.proofs.Values.{product-le, share-lt, wide-is, wide-val}
+use Rattle.rules.proofs.Limbs.{wide-val}
+use Rattle.pricing.proofs.Values.{product-le, share-lt, wide-is}
 use Rattle.pricing.proofs.worth.terms_wide.Statement.{statement}
 use Rattle.pricing.proofs.worth.terms_wide.Tie as tie
 

@@ -1,0 +1,22 @@
+-- A number and its two limbs. Assumes nothing.
+use Prim.Native.Nat.{ℕ, _+_, _*_, _/_, _%_, _<_, _^_}
+use mathlib.Core.Path.{_≡_}
+use native.Mathlib.Omega.{arith}
+use Rattle.rules.specs.Wide.{limbs, val, wideOf}
+use Rattle.rules.specs.declared.wide.Wide.{Wide}
+
+-- a number's limbs say it
+pub wide-val : (n : ℕ) → val (wideOf n) ≡ n
+unfolding limbs wideOf
+wide-val n = omega arith
+
+-- and two limbs are those of the number that they say
+pub wide-limbs : (hi lo : ℕ) → lo < 2 ^ 64 → wideOf (limbs hi lo) ≡ record { hi = hi; lo = lo }
+unfolding limbs wideOf
+wide-limbs hi lo h =
+    let e : (hi * 2 ^ 64 + lo) / 2 ^ 64 ≡ hi = omega arith in
+    let f : (hi * 2 ^ 64 + lo) % 2 ^ 64 ≡ lo = omega arith in
+    λ i. record { hi = e i; lo = f i }
+
+pub wide-back : (w : Wide) → w .lo < 2 ^ 64 → wideOf (val w) ≡ w
+wide-back w h = wide-limbs (w .hi) (w .lo) h
