@@ -1,0 +1,167 @@
+/* Calls the library: reads questions from standard input, and writes back the word that comes back and the memory as it then is.
+ *
+ * A program of its own, since the archive is for x86-64 alone: on another processor this program runs under the kit's emulator,
+ * and the Rust beside it as it is. A fault in the library ends this program, and the comparison can say on which case.
+ * It uses no C library and no header, so the kit's compiler is all that it needs.
+ *
+ * A question: struct question, then its memory. An answer: the word (8 bytes), then the memory. */
+
+typedef __UINT64_TYPE__ u64;
+
+enum { NAME = 32, MOST_ARGUMENTS = 12, PAGE = 4096 };
+/* Room for the largest bank with an answer for each of its records. */
+#define ARENA (32ul << 20)
+
+struct question {
+    char name[NAME];
+    struct {
+        u64 is_offset; /* into the memory: the argument is that address */
+        u64 number;
+    } arguments[MOST_ARGUMENTS];
+    u64 memory_bytes;
+};
+
+/* Every exported function takes numbers and addresses and hands back a u64. The system's convention lets a caller pass more of
+ * them than are taken, so all are called alike. */
+typedef u64 exported(u64, u64, u64, u64, u64, u64, u64, u64, u64, u64, u64, u64);
+
+exported volankizo_prescribe, volankizo_prescribe_checked, volankizo_utility_for_model, volankizo_find, volankizo_check_request;
+
+static const struct {
+    const char *name;
+    exported *function;
+} calls[] = {
+    {"prescribe", volankizo_prescribe},
+    {"prescribe_checked", volankizo_prescribe_checked},
+    {"utility_for_model", volankizo_utility_for_model},
+    {"find", volankizo_find},
+    {"check_request", volankizo_check_request},
+};
+
+enum { SYS_READ = 0, SYS_WRITE = 1, SYS_MMAP = 9, SYS_MPROTECT = 10, SYS_EXIT = 60 };
+
+static long system_call(long number, u64 a, u64 b, u64 c, u64 d, u64 e, u64 f)
+{
+    long result;
+    register u64 r10 __asm__("r10") = d;
+    register u64 r8 __asm__("r8") = e;
+    register u64 r9 __asm__("r9") = f;
+    __asm__ volatile("syscall"
+                     : "=a"(result)
+                     : "a"(number), "D"(a), "S"(b), "d"(c), "r"(r10), "r"(r8), "r"(r9)
+                     : "rcx", "r11", "memory");
+    return result;
+}
+
+static _Noreturn void leave(int code)
+{
+    for (;;)
+        system_call(SYS_EXIT, code, 0, 0, 0, 0, 0);
+}
+
+/* Fills the buffer. No more input is the end, and is good only where a question would begin. */
+static void take(void *to, u64 bytes, int may_end)
+{
+    for (u64 got = 0; got < bytes;) {
+        long n = system_call(SYS_READ, 0, (u64)to + got, bytes - got, 0, 0, 0);
+        if (n <= 0)
+            leave(n == 0 && got == 0 && may_end ? 0 : 2);
+        got += n;
+    }
+}
+
+static void give(const void *from, u64 bytes)
+{
+    for (u64 sent = 0; sent < bytes;) {
+        long n = system_call(SYS_WRITE, 1, (u64)from + sent, bytes - sent, 0, 0, 0);
+        if (n <= 0)
+            leave(2);
+        sent += n;
+    }
+}
+
+/* The end of the memory lent: what follows cannot be read or written, so that a step too far is a fault. */
+static char *arena_end(void)
+{
+    enum { NONE = 0, READ_WRITE = 3, PRIVATE_ANONYMOUS = 0x22 };
+    long start = system_call(SYS_MMAP, 0, ARENA + PAGE, READ_WRITE, PRIVATE_ANONYMOUS, -1, 0);
+    if (start < 0 && start > -PAGE)
+        leave(2);
+    if (system_call(SYS_MPROTECT, start + ARENA, PAGE, NONE, 0, 0, 0) != 0)
+        leave(2);
+    return (char *)start + ARENA;
+}
+
+static exported *named(const char *name)
+{
+    for (u64 i = 0; i < sizeof calls / sizeof calls[0]; i++) {
+        u64 at = 0;
+        while (at < NAME - 1 && name[at] == calls[i].name[at] && name[at] != 0)
+            at++;
+        if (name[at] == 0 && calls[i].name[at] == 0)
+            return calls[i].function;
+    }
+    leave(3);
+}
+
+static void answer(const struct question *q, char *memory)
+{
+    u64 a[MOST_ARGUMENTS];
+    for (int i = 0; i < MOST_ARGUMENTS; i++)
+        a[i] = q->arguments[i].number + (q->arguments[i].is_offset ? (u64)memory : 0);
+    u64 word = named(q->name)(a[0], a[1], a[2], a[3], a[4], a[5], a[6], a[7], a[8], a[9], a[10], a[11]);
+    give(&word, sizeof word);
+    give(memory, q->memory_bytes);
+}
+
+__attribute__((force_align_arg_pointer)) _Noreturn void _start(void)
+{
+    static struct question q;
+    char *end = arena_end();
+    for (;;) {
+        take(&q, sizeof q, 1);
+        if (q.memory_bytes > ARENA)
+            leave(4);
+        take(end - q.memory_bytes, q.memory_bytes, 0);
+        answer(&q, end - q.memory_bytes);
+    }
+}
+
+/* A compiler may call these where the source has a loop or an assignment. */
+void *memcpy(void *to, const void *from, u64 bytes)
+{
+    for (u64 i = 0; i < bytes; i++)
+        ((volatile char *)to)[i] = ((const char *)from)[i];
+    return to;
+}
+
+void *memmove(void *to, const void *from, u64 bytes)
+{
+    int up = (u64)to <= (u64)from;
+    for (u64 i = 0; i < bytes; i++) {
+        u64 at = up ? i : bytes - 1 - i;
+        ((volatile char *)to)[at] = ((const char *)from)[at];
+    }
+    return to;
+}
+
+void *memset(void *to, int byte, u64 bytes)
+{
+    for (u64 i = 0; i < bytes; i++)
+        ((volatile char *)to)[i] = (char)byte;
+    return to;
+}
+
+int memcmp(const void *left, const void *right, u64 bytes)
+{
+    const unsigned char *l = left, *r = right;
+    for (u64 i = 0; i < bytes; i++)
+        if (l[i] != r[i])
+            return l[i] < r[i] ? -1 : 1;
+    return 0;
+}
+
+int bcmp(const void *left, const void *right, u64 bytes)
+{
+    return memcmp(left, right, bytes);
+}

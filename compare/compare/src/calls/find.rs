@@ -1,0 +1,22 @@
+//! `find`: the place of the first listed record with an id.
+use super::{Answer, Call, Handed};
+use crate::case::{Ask, Case};
+use crate::second::bytes::{first_listed, PLACE_BYTES};
+use crate::second::refusals::{self, Passed};
+
+pub const CALL: Call = Call { name: "find", takes: &[Handed::Bank, Handed::Id, Handed::Out], need, second, rust };
+
+fn need(_: &Case) -> usize {
+    PLACE_BYTES
+}
+
+/// 1, 2, 4.
+fn second(ask: &Ask) -> Passed {
+    refusals::bank(ask.bank)?;
+    refusals::room(ask.room, PLACE_BYTES)
+}
+
+/// The Rust has no call for this, and takes the first listed record wherever it looks an id up; the place is the second reading's.
+fn rust(ask: &Ask) -> Answer {
+    Ok(first_listed(ask.bank, ask.id).to_le_bytes().to_vec())
+}

@@ -1,0 +1,31 @@
+//! `utility_for_model`: the utility of the first listed record with an id, if that record is eligible.
+use super::{snapshot, Answer, Call, Handed};
+use crate::case::{Ask, Case};
+use crate::second::bytes::{request_of, UTILITY_BYTES};
+use crate::second::refusals::{self, Passed, Refusal};
+
+pub const CALL: Call = Call {
+    name: "utility_for_model",
+    takes: &[Handed::Policy, Handed::Request, Handed::Bank, Handed::Id, Handed::Out],
+    need,
+    second,
+    rust,
+};
+
+fn need(_: &Case) -> usize {
+    UTILITY_BYTES
+}
+
+/// 22, 1, 2, 4; then 7, where the Rust has no answer. There is no checked form, so 3 isn't given.
+fn second(ask: &Ask) -> Passed {
+    refusals::field_lengths(ask.policy, ask.request)?;
+    refusals::bank(ask.bank)?;
+    refusals::room(ask.room, UTILITY_BYTES)
+}
+
+fn rust(ask: &Ask) -> Answer {
+    match snapshot(ask).utility_for_model(request_of(ask.request), ask.id) {
+        Some(utility) => Ok(utility.to_le_bytes().to_vec()),
+        None => Err(Refusal::of(refusals::NO_UTILITY)),
+    }
+}

@@ -1,0 +1,147 @@
+//! What a run of cases reaches, in figures: a generator that misses a rule shows here.
+use crate::calls::{Answer, Call, CALLS};
+use crate::case::Case;
+use crate::second::bytes::{models_of, policy_of, request_of, RECORD_BYTES};
+use oracle::kernel::{CandidateVerdict, Explanation, KernelModel, UtilityTerms};
+use std::cmp::Reverse;
+use std::collections::{BTreeMap, BTreeSet};
+use std::fmt;
+
+/// Larger banks are passed over where each record is looked at; they repeat what smaller ones show.
+const LOOKED_AT: usize = 900 * RECORD_BYTES;
+
+#[derive(Default)]
+pub struct Figures {
+    /// How often each call was asked, in the order of `CALLS`.
+    pub asked: [u64; CALLS.len()],
+    /// For each call and number, how often it was refused so.
+    pub refused: BTreeMap<(usize, u8), u64>,
+    /// How often a decision had this property.
+    pub seen: BTreeMap<String, u64>,
+    decided: u64,
+}
+
+impl Figures {
+    /// Notes what one call owes on one case.
+    pub fn note(&mut self, call: usize, case: &Case, owed: &Answer) {
+        self.asked[call] += 1;
+        match owed {
+            Err(refusal) => *self.refused.entry((call, refusal.number)).or_default() += 1,
+            Ok(decision) if call == 0 => self.note_decision(case, decision),
+            Ok(_) => {}
+        }
+    }
+
+    fn note_decision(&mut self, case: &Case, decision: &[u8]) {
+        self.decided += 1;
+        let at = |offset: usize| u16::from_le_bytes([decision[offset], decision[offset + 1]]);
+        self.see(format!("action {}", decision[8]));
+        self.see(format!("reason {:3}", at(9)));
+        self.see(format!("eligible {}", ["0", "1", "2 and more"][usize::from(at(47).min(2))]));
+        let counts: Vec<u16> = (0..9).map(|count| at(65 + 2 * count)).collect();
+        for (name, _) in COUNTS.iter().zip(&counts).filter(|(_, count)| **count > 0) {
+            self.see(format!("some rejected for {name}"));
+        }
+        if counts.iter().filter(|count| **count > 0).count() > 1 {
+            self.see("rejections for several reasons".into());
+        }
+        if case.bank.len() <= LOOKED_AT {
+            self.note_records(case);
+        }
+    }
+
+    fn note_records(&mut self, case: &Case) {
+        let models = models_of(&case.bank);
+        let explanation = policy_of(&case.policy).with(models.clone()).explain(request_of(&case.request));
+        if let Some(key) = deciding_key(&models, &explanation) {
+            self.see(format!("first before second by {key}"));
+        }
+        for (name, holds) in EXTREMES {
+            if explanation.candidates.iter().filter_map(|c| terms(&c.verdict)).any(|t| holds(&t)) {
+                self.see(format!("some {name}"));
+            }
+        }
+    }
+
+    fn see(&mut self, what: String) {
+        *self.seen.entry(what).or_default() += 1;
+    }
+}
+
+pub const COUNTS: [&str; 9] =
+    ["disabled", "quality", "ceiling", "latency", "capability", "provider", "region", "budget", "utility"];
+
+/// The keys of the ranking, in their order.
+pub const KEYS: [&str; 5] = ["1 utility", "2 cost", "3 quality", "4 id", "5 place"];
+
+pub type Extreme = (&'static str, fn(&UtilityTerms) -> bool);
+
+/// Where 64 bits don't suffice, or a number is held at its limit.
+pub const EXTREMES: [Extreme; 7] = [
+    ("quality term of 2^64 or more", |t| t.quality_adjusted >> 64 != 0),
+    ("risk term of 2^64 or more", |t| t.risk_penalty >> 64 != 0),
+    ("latency term of 2^64 or more", |t| t.latency_penalty >> 64 != 0),
+    ("cost of 2^64 - 1", |t| t.cost_microunits == u64::MAX),
+    ("utility of 2^63 - 1", |t| t.utility == i64::MAX),
+    ("utility of 0", |t| t.utility == 0),
+    ("utility of -2^63", |t| t.utility == i64::MIN),
+];
+
+fn terms(verdict: &CandidateVerdict) -> Option<UtilityTerms> {
+    match verdict {
+        CandidateVerdict::Eligible(terms) | CandidateVerdict::NonPositiveUtility(terms) => Some(*terms),
+        _ => None,
+    }
+}
+
+/// The key by which the best eligible record stands before the second: the first in which the two differ.
+fn deciding_key(models: &[KernelModel], explanation: &Explanation) -> Option<&'static str> {
+    let mut ranked: Vec<_> = explanation
+        .eligible()
+        .filter_map(|c| terms(&c.verdict).map(|t| (t, models[usize::from(c.model_index)])))
+        .map(|(t, m)| (Reverse(t.utility), t.cost_microunits, Reverse(m.quality_bps), m.model_id))
+        .collect();
+    ranked.sort();
+    let (first, second) = (ranked.first()?, ranked.get(1)?);
+    let differ = [first.0 != second.0, first.1 != second.1, first.2 != second.2, first.3 != second.3, true];
+    KEYS.into_iter().zip(differ).find_map(|(key, differs)| differs.then_some(key))
+}
+
+/// The figures of several runs side by side, a column for each.
+pub struct Table<'a>(pub &'a [(&'a str, &'a Figures)]);
+
+impl fmt::Display for Table<'_> {
+    fn fmt(&self, f: &mut fmt::Formatter<'_>) -> fmt::Result {
+        self.row(f, "", |(name, _)| name.to_string())?;
+        for (call, Call { name, .. }) in CALLS.iter().enumerate() {
+            self.row(f, &format!("{name}: cases"), |(_, figures)| figures.asked[call].to_string())?;
+            for number in self.names(|figures| figures.refused.keys().filter(|k| k.0 == call).map(|k| k.1).collect()) {
+                let part = |figures: &Figures| figures.refused.get(&(call, number)).copied();
+                self.row(f, &format!("  refused {number}"), |(_, it)| share(part(it), it.asked[call]))?;
+            }
+        }
+        self.row(f, "decisions looked at", |(_, figures)| figures.decided.to_string())?;
+        for what in self.names(|figures| figures.seen.keys().cloned().collect()) {
+            self.row(f, &format!("  {what}"), |(_, it)| share(it.seen.get(&what).copied(), it.decided))?;
+        }
+        Ok(())
+    }
+}
+
+impl Table<'_> {
+    fn row(&self, f: &mut fmt::Formatter<'_>, title: &str, cell: impl Fn(&(&str, &Figures)) -> String) -> fmt::Result {
+        write!(f, "{title:40}")?;
+        self.0.iter().try_for_each(|column| write!(f, "{:>20}", cell(column)))?;
+        writeln!(f)
+    }
+
+    /// Every name that some column has, in order.
+    fn names<T: Ord>(&self, of: impl Fn(&Figures) -> Vec<T>) -> BTreeSet<T> {
+        self.0.iter().flat_map(|(_, figures)| of(figures)).collect()
+    }
+}
+
+fn share(part: Option<u64>, whole: u64) -> String {
+    let part = part.unwrap_or(0);
+    format!("{part} ({:.1} %)", part as f64 * 100.0 / whole.max(1) as f64)
+}

@@ -1,0 +1,235 @@
+//! Document 01's bytes: little-endian, signed numbers in two's complement, no gaps, fields in the order in which they stand below.
+use oracle::kernel::{KernelDecision, KernelInput, KernelModel, PolicySnapshot, RejectionHistogram};
+
+pub const POLICY_BYTES: usize = 30;
+pub const REQUEST_BYTES: usize = 70;
+pub const RECORD_BYTES: usize = 47;
+/// A decision's 65 bytes and its nine counts.
+pub const DECISION_BYTES: usize = 83;
+pub const UTILITY_BYTES: usize = 8;
+pub const PLACE_BYTES: usize = 2;
+/// The place of an id that is nowhere.
+pub const NOWHERE: u16 = u16::MAX;
+
+/// The policy's six numbers, the body of tag 1. Its models stand beside it, in the bank.
+#[derive(Clone, Copy, Debug, PartialEq, Eq)]
+pub struct Policy {
+    pub policy_epoch: u64,
+    pub catalog_epoch: u64,
+    pub hard_risk_limit_bps: u16,
+    pub minimum_confidence_bps: u16,
+    pub risk_penalty_multiplier_bps: u16,
+    pub latency_penalty_microunits_per_ms: u64,
+}
+
+impl Policy {
+    /// The Rust's policy, which owns its models.
+    pub fn with(&self, models: Vec<KernelModel>) -> PolicySnapshot {
+        PolicySnapshot::new_unchecked(
+            self.policy_epoch,
+            self.catalog_epoch,
+            self.hard_risk_limit_bps,
+            self.minimum_confidence_bps,
+            self.risk_penalty_multiplier_bps,
+            self.latency_penalty_microunits_per_ms,
+            models,
+        )
+    }
+}
+
+/// What is left to read. A field is read off the front.
+struct Fields<'a>(&'a [u8]);
+
+impl Fields<'_> {
+    fn take<const N: usize>(&mut self) -> [u8; N] {
+        let (field, rest) = self.0.split_at(N);
+        self.0 = rest;
+        field.try_into().expect("split at its length")
+    }
+    fn u8(&mut self) -> u8 {
+        u8::from_le_bytes(self.take())
+    }
+    fn u16(&mut self) -> u16 {
+        u16::from_le_bytes(self.take())
+    }
+    fn u32(&mut self) -> u32 {
+        u32::from_le_bytes(self.take())
+    }
+    fn u64(&mut self) -> u64 {
+        u64::from_le_bytes(self.take())
+    }
+    fn i64(&mut self) -> i64 {
+        i64::from_le_bytes(self.take())
+    }
+}
+
+pub fn policy_of(bytes: &[u8]) -> Policy {
+    assert_eq!(bytes.len(), POLICY_BYTES);
+    let mut f = Fields(bytes);
+    Policy {
+        policy_epoch: f.u64(),
+        catalog_epoch: f.u64(),
+        hard_risk_limit_bps: f.u16(),
+        minimum_confidence_bps: f.u16(),
+        risk_penalty_multiplier_bps: f.u16(),
+        latency_penalty_microunits_per_ms: f.u64(),
+    }
+}
+
+pub fn policy_bytes(p: &Policy) -> Vec<u8> {
+    [
+        &p.policy_epoch.to_le_bytes()[..],
+        &p.catalog_epoch.to_le_bytes(),
+        &p.hard_risk_limit_bps.to_le_bytes(),
+        &p.minimum_confidence_bps.to_le_bytes(),
+        &p.risk_penalty_multiplier_bps.to_le_bytes(),
+        &p.latency_penalty_microunits_per_ms.to_le_bytes(),
+    ]
+    .concat()
+}
+
+pub fn request_of(bytes: &[u8]) -> KernelInput {
+    assert_eq!(bytes.len(), REQUEST_BYTES);
+    let mut f = Fields(bytes);
+    KernelInput {
+        request_sequence: f.u64(),
+        requested_model_id: f.u32(),
+        input_tokens: f.u32(),
+        output_tokens: f.u32(),
+        business_value_microunits: f.i64(),
+        budget_limit_microunits: f.u64(),
+        risk_bps: f.u16(),
+        confidence_bps: f.u16(),
+        minimum_quality_bps: f.u16(),
+        max_p95_latency_ms: f.u32(),
+        required_capabilities: f.u64(),
+        allowed_provider_mask: f.u64(),
+        required_region_mask: f.u64(),
+    }
+}
+
+pub fn request_bytes(q: &KernelInput) -> Vec<u8> {
+    [
+        &q.request_sequence.to_le_bytes()[..],
+        &q.requested_model_id.to_le_bytes(),
+        &q.input_tokens.to_le_bytes(),
+        &q.output_tokens.to_le_bytes(),
+        &q.business_value_microunits.to_le_bytes(),
+        &q.budget_limit_microunits.to_le_bytes(),
+        &q.risk_bps.to_le_bytes(),
+        &q.confidence_bps.to_le_bytes(),
+        &q.minimum_quality_bps.to_le_bytes(),
+        &q.max_p95_latency_ms.to_le_bytes(),
+        &q.required_capabilities.to_le_bytes(),
+        &q.allowed_provider_mask.to_le_bytes(),
+        &q.required_region_mask.to_le_bytes(),
+    ]
+    .concat()
+}
+
+fn model_of(bytes: &[u8]) -> KernelModel {
+    let mut f = Fields(bytes);
+    KernelModel {
+        model_id: f.u32(),
+        provider_id: f.u16(),
+        quality_bps: f.u16(),
+        risk_ceiling_bps: f.u16(),
+        enabled: f.u8(),
+        p95_latency_ms: f.u32(),
+        capabilities: f.u64(),
+        region_mask: f.u64(),
+        input_cost_microunits_per_million_tokens: f.u64(),
+        output_cost_microunits_per_million_tokens: f.u64(),
+    }
+}
+
+fn put_model(out: &mut Vec<u8>, m: &KernelModel) {
+    out.extend(m.model_id.to_le_bytes());
+    out.extend(m.provider_id.to_le_bytes());
+    out.extend(m.quality_bps.to_le_bytes());
+    out.extend(m.risk_ceiling_bps.to_le_bytes());
+    out.extend(m.enabled.to_le_bytes());
+    out.extend(m.p95_latency_ms.to_le_bytes());
+    out.extend(m.capabilities.to_le_bytes());
+    out.extend(m.region_mask.to_le_bytes());
+    out.extend(m.input_cost_microunits_per_million_tokens.to_le_bytes());
+    out.extend(m.output_cost_microunits_per_million_tokens.to_le_bytes());
+}
+
+pub fn models_of(bank: &[u8]) -> Vec<KernelModel> {
+    assert_eq!(bank.len() % RECORD_BYTES, 0);
+    bank.chunks_exact(RECORD_BYTES).map(model_of).collect()
+}
+
+/// The place of the first listed record with an id, or `NOWHERE`.
+pub fn first_listed(bank: &[u8], id: u32) -> u16 {
+    let place = bank.chunks_exact(RECORD_BYTES).position(|record| record[..4] == id.to_le_bytes());
+    place.map_or(NOWHERE, |at| u16::try_from(at).expect("at most 65,535 records"))
+}
+
+pub fn bank_bytes(models: &[KernelModel]) -> Vec<u8> {
+    let mut out = Vec::with_capacity(models.len() * RECORD_BYTES);
+    models.iter().for_each(|m| put_model(&mut out, m));
+    out
+}
+
+pub fn decision_bytes(d: &KernelDecision, counts: &RejectionHistogram) -> Vec<u8> {
+    let mut out = [
+        &d.request_sequence.to_le_bytes()[..],
+        &[d.action as u8],
+        &(d.reason as u16).to_le_bytes(),
+        &d.selected_model_id.to_le_bytes(),
+        &d.selected_model_index.to_le_bytes(),
+        &d.estimated_cost_microunits.to_le_bytes(),
+        &d.expected_utility_microunits.to_le_bytes(),
+        &d.counterfactual_model_id.to_le_bytes(),
+        &d.counterfactual_utility_microunits.to_le_bytes(),
+        &d.evaluated_models.to_le_bytes(),
+        &d.eligible_models.to_le_bytes(),
+        &d.policy_epoch.to_le_bytes(),
+        &d.catalog_epoch.to_le_bytes(),
+    ]
+    .concat();
+    out.extend(counts_in_order(counts).iter().flat_map(|n| n.to_le_bytes()));
+    out
+}
+
+/// The nine counts as they are held and printed. Neither the gates' order nor the order of equal counts is this one.
+pub fn counts_in_order(c: &RejectionHistogram) -> [u16; 9] {
+    [c.disabled, c.quality, c.risk_ceiling, c.latency, c.capability, c.provider, c.region, c.budget, c.utility]
+}
+
+#[cfg(test)]
+mod tests {
+    use super::*;
+
+    /// Each byte is its own offset, so a field shows where it was read.
+    fn offsets(n: u8) -> Vec<u8> {
+        (0..n).collect()
+    }
+
+    #[test]
+    fn a_record_has_its_fields_at_the_documents_offsets() {
+        let m = model_of(&offsets(47));
+        let first = [
+            m.model_id.to_le_bytes()[0],
+            m.provider_id.to_le_bytes()[0],
+            m.quality_bps.to_le_bytes()[0],
+            m.risk_ceiling_bps.to_le_bytes()[0],
+            m.enabled,
+            m.p95_latency_ms.to_le_bytes()[0],
+            m.capabilities.to_le_bytes()[0],
+            m.region_mask.to_le_bytes()[0],
+            m.input_cost_microunits_per_million_tokens.to_le_bytes()[0],
+            m.output_cost_microunits_per_million_tokens.to_le_bytes()[0],
+        ];
+        assert_eq!(first, [0, 4, 6, 8, 10, 11, 15, 23, 31, 39]);
+    }
+
+    #[test]
+    fn what_was_read_is_written_as_the_same_bytes() {
+        assert_eq!(policy_bytes(&policy_of(&offsets(30))), offsets(30));
+        assert_eq!(request_bytes(&request_of(&offsets(70))), offsets(70));
+        assert_eq!(bank_bytes(&models_of(&offsets(94))), offsets(94));
+    }
+}

@@ -1,0 +1,100 @@
+//! Document 01's refusal numbers, the tests behind them, and the word in which the library hands one back.
+use super::bytes::{POLICY_BYTES, RECORD_BYTES, REQUEST_BYTES};
+use oracle::kernel::InputError;
+
+pub const BANK_LENGTH: u8 = 1;
+pub const TOO_MANY_RECORDS: u8 = 2;
+pub const REQUEST_LIMIT: u8 = 3;
+pub const NO_ROOM: u8 = 4;
+pub const NO_UTILITY: u8 = 7;
+pub const FIELD_LENGTH: u8 = 22;
+
+pub const MOST_RECORDS: usize = 65_535;
+
+/// A number with its values: which field, its value, and an id or a place. What a number doesn't carry is 0.
+#[derive(Clone, Copy, Debug, PartialEq, Eq)]
+pub struct Refusal {
+    pub number: u8,
+    pub field: u8,
+    pub value: u16,
+    pub id_or_place: u32,
+}
+
+impl Refusal {
+    pub fn of(number: u8) -> Self {
+        Refusal { number, field: 0, value: 0, id_or_place: 0 }
+    }
+
+    /// number + 2^8 field + 2^16 value + 2^32 (id or place)
+    pub fn word(self) -> u64 {
+        u64::from(self.number)
+            | u64::from(self.field) << 8
+            | u64::from(self.value) << 16
+            | u64::from(self.id_or_place) << 32
+    }
+}
+
+pub type Passed = Result<(), Refusal>;
+
+fn unless(fault: bool, number: u8) -> Passed {
+    if fault {
+        Err(Refusal::of(number))
+    } else {
+        Ok(())
+    }
+}
+
+/// 22: the boundary's own case, a request that isn't 70 bytes.
+pub fn request_length(request: &[u8]) -> Passed {
+    unless(request.len() != REQUEST_BYTES, FIELD_LENGTH)
+}
+
+/// 22, for either of the two.
+pub fn field_lengths(policy: &[u8], request: &[u8]) -> Passed {
+    unless(policy.len() != POLICY_BYTES, FIELD_LENGTH)?;
+    request_length(request)
+}
+
+/// 1, then 2.
+pub fn bank(bank: &[u8]) -> Passed {
+    unless(!bank.len().is_multiple_of(RECORD_BYTES), BANK_LENGTH)?;
+    unless(bank.len() / RECORD_BYTES > MOST_RECORDS, TOO_MANY_RECORDS)
+}
+
+/// 4.
+pub fn room(have: usize, need: usize) -> Passed {
+    unless(have < need, NO_ROOM)
+}
+
+/// 3: which field and which value is the Rust's to say, in its order; the fields' numbers are document 01's. The place is 0
+/// outside a batch.
+pub fn request_limit(error: &InputError) -> Refusal {
+    let InputError::OutOfRangeBps { field, value, .. } = error else {
+        panic!("the Rust has an error that document 01 has no number for: {error:?}");
+    };
+    let field = match *field {
+        "risk_bps" => 1,
+        "confidence_bps" => 2,
+        "minimum_quality_bps" => 3,
+        other => panic!("the Rust tests a field that document 01 has no number for: {other}"),
+    };
+    Refusal { field, value: *value, ..Refusal::of(REQUEST_LIMIT) }
+}
+
+#[cfg(test)]
+mod tests {
+    use super::*;
+
+    #[test]
+    fn a_word_has_each_value_in_its_place() {
+        let refusal = Refusal { number: 14, field: 7, value: 10_001, id_or_place: 5 };
+        assert_eq!(refusal.word(), 14 + (7 << 8) + (10_001 << 16) + (5 << 32));
+    }
+
+    #[test]
+    fn the_length_comes_before_the_number_of_records() {
+        assert_eq!(bank(&vec![0; 65_536 * 47 + 1]), Err(Refusal::of(1)));
+        assert_eq!(bank(&vec![0; 65_536 * 47]), Err(Refusal::of(2)));
+        assert_eq!(bank(&vec![0; 65_535 * 47]), Ok(()));
+    }
+}

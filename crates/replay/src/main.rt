@@ -1,0 +1,19 @@
+// Replays a fixed list of questions with the answers that are owed, and tells how many there are and how many differ. The list is standard
+// input; compare/cases made it from the Rust. No Rust is needed here.
+mod list;
+
+use libc::STDIN_FILENO;
+use libc::STDOUT_FILENO;
+
+fn main() {
+    let mut space = [0u8; 262_144];
+    let n = io::read_full(STDIN_FILENO, &mut space);
+    let told = list::replayed(&space[..n]);
+    io::print_decimal(STDOUT_FILENO, told.answers);
+    io::write_all(STDOUT_FILENO, b" answers, ");
+    io::print_decimal(STDOUT_FILENO, told.different);
+    io::write_all(STDOUT_FILENO, b" differ\n");
+    if told.left != 0 {
+        io::write_all(STDOUT_FILENO, b"the list is cut short\n");
+    }
+}

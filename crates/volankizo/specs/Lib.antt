@@ -1,0 +1,2 @@
+-- What the static library's exported functions hand back and write.
+pub mod Boundary
