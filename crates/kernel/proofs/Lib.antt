@@ -5,3 +5,4 @@ pub mod Refusals
 pub mod Stops
 pub mod Singles
 pub mod Finding
+pub mod Answers
