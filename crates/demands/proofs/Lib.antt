@@ -1,4 +1,4 @@
--- Theorems for a reader, each under the demand that it serves, and the laws that they rest on.
+-- Theorems for a reader, each under the demand that it serves (README.md lists the three), and the laws that they rest on.
 pub mod Laws
 pub mod Costs
 pub mod Paths

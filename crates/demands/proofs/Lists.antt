@@ -1,17 +1,11 @@
 -- Laws of lists: what holds for each or for all pairs, and what a permutation keeps. Assumes nothing.
-use Prim.Native.Nat.{ℕ, _+_, _<_}
+use Prim.Native.Nat.{ℕ, _+_}
 use mathlib.Core.Path.{_≡_, refl, sym, subst, _∙_}
 use mathlib.Core.Bool.{Bool, true, false, cond}
 use mathlib.Core.List.{List, [], _∷_, List·Memᴰ, List·Memᴰ·head, List·Memᴰ·tail, List·Permᴰ, List·Permᴰ·nil, List·Permᴰ·cons, List·Permᴰ·swap, List·Permᴰ·trans}
 use native.Mathlib.Omega.{arith}
+use Rattle.rules.proofs.Counts.{swap}
 use Rattle.demands.specs.Lists.{Each, Pairs, Rising, Different, many}
-
--- two counts in either order
-swapped : (a b : Bool) (n : ℕ) → cond a (cond b (n + 1) n + 1) (cond b (n + 1) n) ≡ cond b (cond a (n + 1) n + 1) (cond a (n + 1) n)
-swapped true true n = refl
-swapped true false n = refl
-swapped false true n = refl
-swapped false false n = refl
 
 module _ {A : Type 0} where
   pub each-so : (P Q : A → Type 0) → ((a : A) → P a → Q a) → (xs : List A) → Each P xs → Each Q xs
@@ -58,7 +52,7 @@ module _ {A : Type 0} where
   pub many-moved : (test : A → Bool) {xs ys : List A} → List·Permᴰ xs ys → many test xs ≡ many test ys
   many-moved test List·Permᴰ·nil = refl
   many-moved test (List·Permᴰ·cons e d) = rw (e, many-moved test d)
-  many-moved test (List·Permᴰ·swap {a = a} {b = b} {l = l} e f) = rw (← e, ← f) (swapped (test a) (test b) (many test l))
+  many-moved test (List·Permᴰ·swap {a = a} {b = b} {l = l} e f) = rw (← e, ← f) (swap (test a) (test b) (many test l))
   many-moved test (List·Permᴰ·trans d f) = many-moved test d ∙ many-moved test f
 
   -- a test that each fails counts none

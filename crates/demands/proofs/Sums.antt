@@ -1,19 +1,17 @@
 -- The nine counts and the eligible models make up the evaluated ones, whatever the request. Assumes nothing.
 use Prim.Native.Nat.{ℕ, suc, _+_, _≤_, _<_}
 use mathlib.Core.Path.{_≡_, refl, sym, ap, _∙_}
-use mathlib.Core.Bool.{Bool, true}
+use mathlib.Core.Bool.{true}
 use mathlib.Core.List.{List, [], _∷_}
 use native.Mathlib.Nat.{eq-zero-or-pos}
 use native.Mathlib.Numerals.{add-one}
 use native.Mathlib.Omega.{arith}
 use mathlib.Core.Logic.{⊎-elim}
 use lib.ListN.{length}
-use Rattle.rules.specs.Choice.{below}
 use Rattle.rules.specs.Records.{Listed}
 use Rattle.rules.specs.Verdict.{Judged, judged}
-use Rattle.rules.specs.Numbers.{Decision}
 use Rattle.rules.specs.Rank.{Candidate, eligibles, ranking}
-use Rattle.rules.specs.Count.{noCounts, countsOf, dominantOf, total}
+use Rattle.rules.specs.Count.{noCounts, countsOf, total}
 use Rattle.rules.specs.Decide.{stoppedBy, rejection, chosen, byRanking, decidedOf, decisionOf, countsIn}
 use Rattle.rules.specs.declared.records.KernelInput.{KernelInput}
 use Rattle.rules.specs.declared.records.PolicySnapshot.{PolicySnapshot}

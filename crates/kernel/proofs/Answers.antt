@@ -8,11 +8,6 @@ use Rattle.rules.specs.Listing.{findOf}
 use Rattle.rules.specs.Decide.{requestCheck, prescribeOf, prescribeCheckedOf, prescribeTracedOf, prescribeTracedCheckedOf, utilityForModelOf}
 use Rattle.rules.specs.declared.records.KernelInput.{KernelInput}
 use Rattle.rules.specs.declared.records.PolicySnapshot.{PolicySnapshot}
-use Rattle.rules.specs.declared.refusal.Outcome.{Outcome}
-use Rattle.rules.specs.declared.decision.Prescribed.{Prescribed}
-use Rattle.rules.specs.declared.decision.Traced.{Traced}
-use Rattle.rules.specs.declared.decision.UtilityFound.{UtilityFound}
-use Rattle.rules.specs.declared.decision.Found.{Found}
 use Rattle.rules.proofs.Told.{one-outcome, one-prescribed, one-traced, one-utility, one-found}
 
 -- two answers that one promise permits

@@ -2,7 +2,7 @@
 use Prim.Native.Nat.{ℕ, _<_, _≤_}
 use native.Mathlib.Omega.{arith}
 use mathlib.Core.Path.{_≡_, sym, ap, _∙_}
-use mathlib.Core.List.{List, []}
+use mathlib.Core.List.{List}
 use Rattle.rules.specs.Numbers.{refused, answered, fault, reasonNo, Decision}
 use Rattle.rules.specs.Records.{Listed}
 use Rattle.rules.specs.Listing.{firstListed}

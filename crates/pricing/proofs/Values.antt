@@ -1,6 +1,6 @@
 -- How large products and terms are, and which limbs a number has. Assumes nothing.
 use mathlib.Core.Path.{_≡_, sym, ap, _∙_}
-use Prim.Native.Nat.{ℕ, _+_, _-_, _*_, _/_, _^_, _<_, _≤_}
+use Prim.Native.Nat.{ℕ, _-_, _*_, _/_, _^_, _<_, _≤_}
 use native.Mathlib.Nat.{mul-le-mul, lt-of-not-le, le-of-suc-le-suc, mul-assoc}
 use native.Mathlib.Omega.{arith}
 use native.Mathlib.Decide.{decLt}

@@ -1,13 +1,12 @@
 -- The ways of a choice: what decides it, as plain orders and equations. Assumes nothing.
 use Prim.Native.Nat.{ℕ, _<_, _≤_}
-use mathlib.Core.Path.{_≡_, refl, _∙_}
+use mathlib.Core.Path.{_≡_}
 use mathlib.Core.Bool.{Bool, true, false}
 use native.Mathlib.Omega.{arith}
 use borrow.Author.Tests.{lt-ltb, le-ltb, le-leb, lt-leb, eq-eqb, ne-eqb}
-use lib.Dec.{ltb, eqb}
 use lib.IntN.{ℤ}
 use lib.Signed.{ltZ}
-use Rattle.rules.specs.Choice.{below, atLeast, equal, firstly, lower, higher}
+use Rattle.rules.specs.Choice.{below, atLeast, equal, lower, higher}
 
 module _ {A : Type 0} (a b : ℕ) (x y : A) where
   pub below-yes : a < b → below a b x y ≡ x

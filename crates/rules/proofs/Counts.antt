@@ -20,7 +20,8 @@ use Rattle.rules.proofs.Verdicts.{Told, by-gate, by-budget, by-utility,
 
 -- ---- one record more
 
-swap : (a b : Bool) (n : ℕ) → cond a (cond b (n + 1) n + 1) (cond b (n + 1) n) ≡ cond b (cond a (n + 1) n + 1) (cond a (n + 1) n)
+-- two counts in either order
+pub swap : (a b : Bool) (n : ℕ) → cond a (cond b (n + 1) n + 1) (cond b (n + 1) n) ≡ cond b (cond a (n + 1) n + 1) (cond a (n + 1) n)
 swap true true n = refl
 swap true false n = refl
 swap false true n = refl

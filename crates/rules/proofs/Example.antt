@@ -1,10 +1,10 @@
 -- Document 01's example in literal bytes, and short names for the answers that its rows tell. Assumes nothing.
 use Prim.Native.Nat.{ℕ, _+_}
-use mathlib.Core.Bool.{Bool, true, false}
+use mathlib.Core.Bool.{Bool}
 use mathlib.Core.List.{List, [], _∷_, _++_}
-use mathlib.Core.Option.{Option, none, some}
+use mathlib.Core.Option.{Option, none}
 use lib.IntN.{ℤ}
-use lib.ListN.{length, take, drop, replicate}
+use lib.ListN.{length, take, drop}
 use Rattle.rules.specs.Numbers.{Decision, DecisionAndTrace, Entry, Boundary, noFault}
 use Rattle.rules.specs.declared.decision.RejectionHistogram.{RejectionHistogram}
 

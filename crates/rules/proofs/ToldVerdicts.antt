@@ -1,6 +1,6 @@
 -- What document 01 tells of a verdict determines it, its wide terms being made of limbs. Assumes nothing.
-use Prim.Native.Nat.{ℕ, _<_, _^_}
-use mathlib.Core.Path.{_≡_, refl, ap}
+use Prim.Native.Nat.{_<_, _^_}
+use mathlib.Core.Path.{_≡_, refl}
 use mathlib.Core.List.{[], _∷_}
 use lib.ListN.{getD}
 use Rattle.rules.specs.Wide.{wideOf}

@@ -7,7 +7,7 @@ use mathlib.Core.Option.{none, some}
 use lib.IntN.{ℤ, pos, negsuc}
 use lib.ListN.{replicate}
 use Rattle.rules.specs.Records.{modelOf, modelBytes, inputOf, inputBytes, policyOf, policyInBytes}
-use Rattle.rules.specs.Numbers.{Fault, Decision, Boundary, fault, noFault, inputFault, firstFault, lengthFaults, refused, answered, twoNumbers}
+use Rattle.rules.specs.Numbers.{Decision, Boundary, fault, noFault, inputFault, firstFault, lengthFaults, refused, answered, twoNumbers}
 use Rattle.rules.specs.Price.{costOf, scaledPrice}
 use Rattle.rules.specs.Utility.{held}
 use Rattle.rules.specs.Verdict.{verdictOf}

@@ -2,8 +2,7 @@
 -- answers; the measure is what is left of the list. Assumes nothing.
 use Prim.Native.Nat.{_≤_, _-_}
 use borrow.Author.Needs.{needs}
-use native.Mathlib.Omega.{arith}
-use lib.ListN.{length, length-take, length-drop}
+use lib.ListN.{length}
 use Rattle.replay.proofs.list.replayed.Statement.{statement}
 use Rattle.replay.proofs.list.replayed.Tie as tie
 use Rattle.replay.proofs.list.replayed.Reads as reads

@@ -1,7 +1,5 @@
 use borrow.Author.Needs.{needs}
-use Rattle.rules.proofs.decision.KernelDecision.is_requested_execution.Statement.{
-  statement,
-}
+use Rattle.rules.proofs.decision.KernelDecision.is_requested_execution.Statement.{statement}
 use Rattle.rules.proofs.decision.KernelDecision.is_requested_execution.Tie as tie
 
 pub is-requested-execution-spec : {M : Type 1} → statement M
