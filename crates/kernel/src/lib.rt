@@ -1,4 +1,5 @@
-// The decision over a bank: the scan, and the calls that decide.
+// The calls that decide over a lent bank. Those passed on here ask nothing of their caller; what stands in a module alone is for other
+// crates.
 pub mod calls;
 pub mod decide;
 pub mod listing;
@@ -14,4 +15,3 @@ pub use calls::prescribe_with_trace_checked;
 pub use listing::find;
 pub use refuse::validate_input;
 pub use single::utility_for_model;
-pub use stand::decide_with;

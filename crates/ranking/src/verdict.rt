@@ -2,6 +2,7 @@
 ghost use mathlib.Core.Path.{_≡_};
 ghost use Prim.Native.Nat.{_<_};
 ghost use Rattle.rules.specs.Count.{total};
+ghost use Rattle.rules.specs.Limits.{maxCatalogModels};
 ghost use Rattle.pricing.specs.Pricing.{Settled};
 ghost use Rattle.ranking.specs.Verdict.{pricedIn, verdictIn, countedOf, enteringOf};
 use crate::state::Candidate;
@@ -49,7 +50,7 @@ pub fn verdict_of(pricing: Pricing, input: KernelInput, model: KernelModel) -> V
 
 // The counts with one more record that was told so; an eligible one raises none.
 pub fn counted(counts: RejectionHistogram, verdict: Verdict) -> RejectionHistogram
-    requires { ⌜ total counts < 65535 ⌝ }
+    requires { ⌜ total counts < maxCatalogModels ⌝ }
     ensures { λ r. ⌜ r ≡ countedOf counts verdict ⌝ }
 {
     match verdict {

@@ -5,3 +5,4 @@ pub mod Handed
 pub mod Words
 pub mod Copies
 pub mod Layouts
+pub mod Answers

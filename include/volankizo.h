@@ -1,0 +1,67 @@
+/* The calls of libvolankizo.a. Numbers are little-endian and packed. A slice is an address and a length; no address is kept.
+ *
+ * A policy is 30 bytes: policy epoch u64, catalogue epoch u64, hard risk limit, minimum confidence, risk multiplier (u16 each), latency
+ * penalty per ms u64.
+ * A request is 70 bytes: sequence u64, requested model u32, input tokens u32, output tokens u32, value i64, budget u64, risk, confidence,
+ * minimum quality (u16 each), latency limit u32, required capabilities u64, allowed providers u64, required regions u64.
+ * A bank is any number of models up to 65,535, of 47 bytes each: id u32, provider u16, quality u16, ceiling u16, enabled u8, latency u32,
+ * capabilities u64, regions u64, input price u64, output price u64.
+ *
+ * Every function takes any bytes. It answers 0 and writes its answer to the start of `out`, or answers a refusal and writes nothing; bytes of
+ * `out` after the answer stay as they were. Of several refusals the first in the order given with each function comes back:
+ *   22  a policy is not 30 bytes long, or a request not 70
+ *    1  the bank's length is no multiple of 47
+ *    2  the bank has more than 65,535 records
+ *    4  `out` is too short for the answer
+ *    3  risk (field 1), confidence (2) or minimum quality (3) is above 10,000; with the field and the value
+ *    7  the request is stopped by 100 or 101, the id is not listed, or its first listed record is not eligible
+ * as number + 2^8 * field + 2^16 * value + 2^32 * (id or place), see the macros below. */
+#ifndef VOLANKIZO_H
+#define VOLANKIZO_H
+
+#include <stddef.h>
+#include <stdint.h>
+
+#ifdef __cplusplus
+extern "C" {
+#endif
+
+#define VOLANKIZO_RECORD_BYTES 47
+#define VOLANKIZO_POLICY_BYTES 30
+#define VOLANKIZO_REQUEST_BYTES 70
+#define VOLANKIZO_DECISION_BYTES 83
+#define VOLANKIZO_UTILITY_BYTES 8
+#define VOLANKIZO_PLACE_BYTES 2
+
+/* The parts of a refusal. */
+#define VOLANKIZO_NUMBER(word) ((unsigned)((word) & 0xff))
+#define VOLANKIZO_FIELD(word) ((unsigned)(((word) >> 8) & 0xff))
+#define VOLANKIZO_VALUE(word) ((unsigned)(((word) >> 16) & 0xffff))
+#define VOLANKIZO_ID_OR_PLACE(word) ((uint32_t)((word) >> 32))
+
+/* Decides. 83 bytes: sequence u64 at 0, action u8 at 8, reason u16 at 9, model u32 at 11, place u16 at 15, cost u64 at 17, utility i64 at 25,
+ * counterfactual model u32 at 33, its utility i64 at 37, evaluated u16 at 45, eligible u16 at 47, policy epoch u64 at 49, catalogue epoch u64
+ * at 57; then nine counts of u16 from 65 on: disabled, quality, ceiling, latency, capability, provider, region, budget, utility.
+ * Refusals: 22, 1, 2, 4. */
+uint64_t volankizo_prescribe(const uint8_t *policy, size_t policy_len, const uint8_t *request, size_t request_len, const uint8_t *bank,
+                             size_t bank_len, uint8_t *out, size_t out_len);
+
+/* The same for a checked request. Refusals: 22, 1, 2, 4, 3. */
+uint64_t volankizo_prescribe_checked(const uint8_t *policy, size_t policy_len, const uint8_t *request, size_t request_len,
+                                     const uint8_t *bank, size_t bank_len, uint8_t *out, size_t out_len);
+
+/* The utility of the first listed record with an id: 8 bytes, i64. Refusals: 22, 1, 2, 4, 7. */
+uint64_t volankizo_utility_for_model(const uint8_t *policy, size_t policy_len, const uint8_t *request, size_t request_len,
+                                     const uint8_t *bank, size_t bank_len, uint32_t id, uint8_t *out, size_t out_len);
+
+/* The place of the first listed record with an id: 2 bytes, u16; 65,535 where the id is nowhere. Refusals: 1, 2, 4. */
+uint64_t volankizo_find(const uint8_t *bank, size_t bank_len, uint32_t id, uint8_t *out, size_t out_len);
+
+/* Whether a request would pass the checked call. Writes nothing. Refusals: 22, 3. */
+uint64_t volankizo_check_request(const uint8_t *request, size_t request_len);
+
+#ifdef __cplusplus
+}
+#endif
+
+#endif
