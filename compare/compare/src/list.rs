@@ -131,6 +131,12 @@ pub fn example() -> Setting {
         allowed_provider_mask: ALL_PROVIDERS,
         required_region_mask: 0,
     };
+    setting.models = example_models();
+    setting
+}
+
+/// Its two models.
+fn example_models() -> Vec<KernelModel> {
     let first = KernelModel {
         model_id: 1,
         provider_id: 0,
@@ -153,8 +159,7 @@ pub fn example() -> Setting {
         output_cost_microunits_per_million_tokens: 2_000_000,
         ..first
     };
-    setting.models = vec![first, second];
-    setting
+    vec![first, second]
 }
 
 fn small_spaces(list: &mut Vec<Entry>) {
