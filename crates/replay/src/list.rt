@@ -13,7 +13,7 @@ const UTILITY: usize = 8;
 const PLACE: usize = 2;
 
 // What was replayed: how many answers, how many of them differ, and how many bytes of the list are left over.
-pub struct Told {
+pub(crate) struct Told {
     pub answers: u64,
     pub different: u64,
     pub left: usize,
@@ -158,7 +158,7 @@ fn first(list: &[u8]) -> Entry
 }
 
 // Every entry of the list.
-pub fn replayed(list: &[u8]) -> Told {
+pub(crate) fn replayed(list: &[u8]) -> Told {
     let mut answers = 0;
     let mut different = 0;
     let mut at = 0;
