@@ -7,9 +7,11 @@ pub mod Verdicts
 pub mod Reasons
 pub mod Counts
 pub mod Layouts
+pub mod Halvings
 pub mod Example
 pub mod Literals
 pub mod Rows
 pub mod Table
 pub mod Vectors
+pub mod Loading
 pub mod Checked

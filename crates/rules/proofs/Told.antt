@@ -5,11 +5,12 @@ use mathlib.Core.List.{List, [], _∷_, map}
 use mathlib.Core.Option.{Option, none, some}
 use lib.IntN.{ℤ}
 use lib.ListN.{getD}
-use Rattle.rules.specs.Numbers.{Fault, toldRefusal, toldOutcome, Answer, refused, answered, actionNo, reasonNo, Decision, toldDecision, toldPrescribed, DecisionAndTrace, toldTraced, toldUtility, toldFound, Entry, toldCost, toldEntry, Boundary, toldBoundaries}
+use Rattle.rules.specs.Numbers.{Fault, toldRefusal, toldOutcome, toldTrusted, Answer, refused, answered, actionNo, reasonNo, Decision, toldDecision, toldPrescribed, DecisionAndTrace, toldTraced, toldUtility, toldFound, toldNext, Entry, toldCost, toldEntry, Boundary, toldBoundaries}
 use Rattle.rules.specs.declared.refusal.Refusal.{Refusal}
 use Rattle.rules.specs.declared.refusal.Refusal.the-variants as refusal
 use Rattle.rules.specs.declared.refusal.Outcome.{Outcome}
 use Rattle.rules.specs.declared.refusal.Outcome.the-variants as outcome
+use Rattle.rules.specs.declared.refusal.Trusted.{Trusted}
 use Rattle.rules.specs.declared.decision.KernelAction.{KernelAction}
 use Rattle.rules.specs.declared.decision.KernelAction.the-variants as action
 use Rattle.rules.specs.declared.decision.KernelReason.{KernelReason}
@@ -23,6 +24,8 @@ use Rattle.rules.specs.declared.decision.UtilityFound.{UtilityFound}
 use Rattle.rules.specs.declared.decision.UtilityFound.the-variants as utility
 use Rattle.rules.specs.declared.decision.Found.{Found}
 use Rattle.rules.specs.declared.decision.Found.the-variants as found
+use Rattle.rules.specs.declared.verdict.NextEligible.{NextEligible}
+use Rattle.rules.specs.declared.verdict.NextEligible.the-variants as next
 use Rattle.rules.specs.declared.boundary.BoundaryCost.{BoundaryCost}
 use Rattle.rules.specs.declared.boundary.BoundaryCost.the-variants as cost
 use Rattle.rules.specs.declared.boundary.Requirement.{Requirement}
@@ -202,6 +205,20 @@ found-back (found.Refused r) = ap found.Refused (refusal-back r)
 found-back (found.At place) = refl
 found-back found.Nowhere = refl
 
+abbrev pub trustedFrom : Fault → Trusted
+trustedFrom f = record { outcome = outcomeFrom f }
+
+pub trusted-back : (t : Trusted) → trustedFrom (toldTrusted t) ≡ t
+trusted-back t = λ i. record { outcome = outcome-back (t .outcome) i }
+
+abbrev pub nextFrom : Option ℕ → NextEligible
+nextFrom none = next.NoMore
+nextFrom (some place) = next.At place
+
+pub next-back : (a : NextEligible) → nextFrom (toldNext a) ≡ a
+next-back (next.At place) = refl
+next-back next.NoMore = refl
+
 -- ---- boundaries
 
 abbrev pub costFrom : Option ℕ → BoundaryCost
@@ -261,6 +278,12 @@ one-utility = one-answer toldUtility utilityFrom utility-back
 
 pub one-found : Determined toldFound
 one-found = one-answer toldFound foundFrom found-back
+
+pub one-trusted : Determined toldTrusted
+one-trusted = one-answer toldTrusted trustedFrom trusted-back
+
+pub one-next : Determined toldNext
+one-next = one-answer toldNext nextFrom next-back
 
 pub one-boundaries : Determined toldBoundaries
 one-boundaries = one-answer toldBoundaries boundariesFrom boundaries-back

@@ -38,6 +38,6 @@ packed [] vs = []
 packed (f ∷ fs) [] = []
 packed (f ∷ fs) (v ∷ vs) = bytesOf (f .width) v ++ packed fs vs
 
--- B9. What a list or buffer holds once bytes are filled in at its start: the bytes after them are as they were
-unfoldable pub filled : List ℕ → List ℕ → List ℕ
-filled bytes list = bytes ++ drop (length bytes) list
+-- B9. What a list, row or buffer holds once something is filled in at its start: what stands after it is as it was
+unfoldable pub filled : {A : Type 0} → List A → List A → List A
+filled new list = new ++ drop (length new) list

@@ -1,13 +1,15 @@
 -- Document 01, "Bytes" and "Deciding": explanation records, and the list of them.
-use Prim.Native.Nat.{ℕ}
+use Prim.Native.Nat.{ℕ, zero, suc, _-_, _*_, _/_}
 use mathlib.Core.List.{List, [], _∷_, _++_}
-use lib.ListN.{length}
+use mathlib.Core.Option.{Option, none, some}
+use lib.ListN.{length, drop}
 use mir.Syntax.{w64}
 use mir.Val.{ofZ}
-use Rattle.rules.specs.Choice.{below}
-use Rattle.rules.specs.Bytes.{Field, field, packed, filled}
+use Rattle.rules.specs.Limits.{explanationBytes}
+use Rattle.rules.specs.Choice.{below, equal}
+use Rattle.rules.specs.Bytes.{Field, field, valueOf, packed}
 use Rattle.rules.specs.Records.{Listed, listedOf}
-use Rattle.rules.specs.Numbers.{Faults, bankFaults, roomFaults, Answer, answered, unless, Decision}
+use Rattle.rules.specs.Numbers.{Faults, bankFaults, roomFaults, listUnless, Answer, answered, unless, Decision}
 use Rattle.rules.specs.Verdict.{Judged, judged}
 use Rattle.rules.specs.Decide.{stoppedBy, decisionOf}
 use Rattle.rules.specs.declared.records.KernelInput.{KernelInput}
@@ -62,10 +64,21 @@ explainFaults p q bank list =
 unfoldable pub explainOf : PolicySnapshot → KernelInput → List ℕ → List ℕ → Answer Decision
 explainOf p q bank list = unless (explainFaults p q bank list) (answered (decisionOf p q (listedOf bank)))
 
--- B9, N24. The list once it answers; a refusal leaves it as it was
-abbrev pub listUnless : Faults → List ℕ → List ℕ → List ℕ
-listUnless [] bytes list = filled bytes list
-listUnless (f ∷ fs) bytes list = list
-
+-- B9, N24. The list at exit
 unfoldable pub explainList : PolicySnapshot → KernelInput → List ℕ → List ℕ → List ℕ
 explainList p q bank list = listUnless (explainFaults p q bank list) (explanationOf p q (listedOf bank)) list
+
+-- X6. Of a list of whole explanation records: how many so many bytes hold, and the verdict byte of the one at a place
+abbrev pub entriesIn : ℕ → ℕ
+entriesIn n = n / explanationBytes
+
+unfoldable pub verdictAt : List ℕ → ℕ → ℕ
+verdictAt list place = valueOf (drop (explanationBytes * place) list) (field 6 1)
+
+-- X6. The place of the first eligible one (verdict 4) among so many from a place on; then among all from a place on
+unfoldable pub eligibleFrom : List ℕ → ℕ → ℕ → Option ℕ
+eligibleFrom list place zero = none
+eligibleFrom list place (suc n) = equal (verdictAt list place) 4 (some place) (eligibleFrom list (suc place) n)
+
+unfoldable pub nextEligibleOf : List ℕ → ℕ → Option ℕ
+nextEligibleOf list place = eligibleFrom list place (entriesIn (length list) - place)

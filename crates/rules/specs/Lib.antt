@@ -14,7 +14,11 @@ pub mod Rank
 pub mod Count
 pub mod Decide
 pub mod Explain
+pub mod Batch
 pub mod Halving
 pub mod Levers
+pub mod View
 pub mod Win
 pub mod Margin
+pub mod Validate
+pub mod Trust

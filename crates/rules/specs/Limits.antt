@@ -38,10 +38,14 @@ allOnes = 2 ^ 64 - 1
 abbrev pub maxProviderId : ℕ
 maxProviderId = 63
 
--- the highest basis points that are not refused, and the divisor of a product with two of them
+-- the highest basis points and the highest risk multiplier that are not refused
 abbrev pub maxBps : ℕ
 maxBps = 10000
 
+abbrev pub maxRiskMultiplier : ℕ
+maxRiskMultiplier = 50000
+
+-- the divisor of a product with two numbers of basis points
 abbrev pub scaledBasisPoints : ℕ
 scaledBasisPoints = 100000000
 

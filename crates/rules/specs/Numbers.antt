@@ -8,12 +8,14 @@ use lib.IntN.{ℤ, pos}
 use lib.ListN.{length}
 use Rattle.rules.specs.Limits.{recordBytes, maxCatalogModels}
 use Rattle.rules.specs.Choice.{below, equal}
+use Rattle.rules.specs.Bytes.{filled}
 use Rattle.rules.specs.Records.{recordsIn}
 use Rattle.rules.specs.Wide.{val}
 use Rattle.rules.specs.declared.refusal.Refusal.{Refusal}
 use Rattle.rules.specs.declared.refusal.Refusal.the-variants as refusal
 use Rattle.rules.specs.declared.refusal.Outcome.{Outcome}
 use Rattle.rules.specs.declared.refusal.Outcome.the-variants as outcome
+use Rattle.rules.specs.declared.refusal.Trusted.{Trusted}
 use Rattle.rules.specs.declared.decision.KernelAction.{KernelAction}
 use Rattle.rules.specs.declared.decision.KernelAction.the-variants as action
 use Rattle.rules.specs.declared.decision.KernelReason.{KernelReason}
@@ -31,6 +33,8 @@ use Rattle.rules.specs.declared.decision.Found.the-variants as found
 use Rattle.rules.specs.declared.verdict.CandidateVerdict.{CandidateVerdict}
 use Rattle.rules.specs.declared.verdict.CandidateVerdict.the-variants as verdict
 use Rattle.rules.specs.declared.verdict.UtilityTerms.{UtilityTerms}
+use Rattle.rules.specs.declared.verdict.NextEligible.{NextEligible}
+use Rattle.rules.specs.declared.verdict.NextEligible.the-variants as next
 use Rattle.rules.specs.declared.boundary.BoundaryCost.{BoundaryCost}
 use Rattle.rules.specs.declared.boundary.BoundaryCost.the-variants as cost
 use Rattle.rules.specs.declared.boundary.Requirement.{Requirement}
@@ -90,6 +94,9 @@ abbrev pub toldOutcome : Outcome → Fault
 toldOutcome outcome.Answered = noFault
 toldOutcome (outcome.Refused r) = toldRefusal r
 
+abbrev pub toldTrusted : Trusted → Fault
+toldTrusted t = toldOutcome (t .outcome)
+
 -- The tests of a call are lists: empty, or the one number that a test hands back. Joined in document 01's order, the first one counts
 abbrev pub Faults : Type 0
 Faults = List Fault
@@ -105,6 +112,11 @@ bankFaults bank = lengthFaults (length bank)
 -- N4. A list or buffer of so many bytes, where so many are needed
 unfoldable pub roomFaults : ℕ → ℕ → Faults
 roomFaults needed room = below room needed (fault 4 ∷ []) []
+
+-- B9, N24. A list, row or buffer at exit: filled, or as it was where there is a fault
+abbrev pub listUnless : {A : Type 0} → Faults → List A → List A → List A
+listUnless [] new list = filled new list
+listUnless (f ∷ fs) new list = list
 
 -- ---- answers
 
@@ -245,6 +257,11 @@ toldVerdict (verdict.Rejected gate measured limit) = twoNumbers 1 gate measured 
 toldVerdict (verdict.OverBudget cost limit) = twoNumbers 2 0 cost limit
 toldVerdict (verdict.NonPositiveUtility t) = toldTerms 3 t
 toldVerdict (verdict.Eligible t) = toldTerms 4 t
+
+-- X6. The next eligible entry of an explanation, if there is one
+abbrev pub toldNext : NextEligible → Option ℕ
+toldNext (next.At place) = some place
+toldNext next.NoMore = none
 
 -- ---- boundaries
 

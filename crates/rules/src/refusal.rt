@@ -72,6 +72,11 @@ pub enum Outcome {
     Refused(Refusal),
 }
 
+// The answer of `trust`: a struct, since more may come to stand in it.
+pub struct Trusted {
+    pub outcome: Outcome,
+}
+
 impl Refusal {
     // Document 01's number.
     pub fn number(self) -> u8

@@ -31,3 +31,9 @@ pub enum CandidateVerdict {
     NonPositiveUtility(UtilityTerms),
     Eligible(UtilityTerms),
 }
+
+// The place of the next eligible entry of an explanation, or none.
+pub enum NextEligible {
+    At(usize),
+    NoMore,
+}

@@ -4,8 +4,7 @@ use Prim.Native.Nat.{ℕ}
 use mathlib.Core.List.{List}
 use mathlib.Core.Path.{_≡_, sym, _∙_}
 use lib.ListN.{length}
-use Rattle.rules.specs.Numbers.{Faults, firstFault}
-use Rattle.rules.specs.Explain.{listUnless}
+use Rattle.rules.specs.Numbers.{Faults, firstFault, listUnless}
 use Rattle.volankizo.specs.Boundary.{wordOf, prescribeFaults, prescribeCheckedFaults, prescribed, decisionBytes, utilityFaults, utilityOf, utilityFrom, utilityBytes, findFaults, placeIn, placeBytes, checkFaults}
 
 -- a word and a buffer at exit that one promise permits

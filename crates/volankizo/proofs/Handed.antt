@@ -5,8 +5,7 @@ use mathlib.Core.List.{List, [], _∷_}
 use native.Mathlib.Omega.{arith}
 use native.Mathlib.Nat.{zero-add}
 use Rattle.rules.specs.Bytes.{filled}
-use Rattle.rules.specs.Numbers.{Fault, Faults, firstFault, toldRefusal, toldOutcome, Answer, refused, answered, unless}
-use Rattle.rules.specs.Explain.{listUnless}
+use Rattle.rules.specs.Numbers.{Fault, Faults, firstFault, toldRefusal, toldOutcome, Answer, refused, answered, unless, listUnless}
 use Rattle.rules.specs.declared.refusal.Refusal.{Refusal}
 use Rattle.rules.specs.declared.refusal.Outcome.{Outcome}
 use Rattle.rules.specs.declared.refusal.Outcome.the-variants.{Answered, Refused}

@@ -26,8 +26,7 @@ use rules::UtilityFound;
 use rules::limits::NO_PLACE;
 ghost use mathlib.Core.Path.{_≡_};
 ghost use lib.ListN.{length};
-ghost use Rattle.rules.specs.Numbers.{firstFault};
-ghost use Rattle.rules.specs.Explain.{listUnless};
+ghost use Rattle.rules.specs.Numbers.{firstFault, listUnless};
 ghost use Rattle.volankizo.specs.Boundary.{wordOf, decisionBytes, prescribed, prescribeFaults, prescribeCheckedFaults, utilityFaults, utilityFrom, utilityOf, utilityBytes, findFaults, placeIn, placeBytes, checkFaults};
 
 // The decision over a bank with its nine counts. `policy` is 30 bytes, `request` 70, `bank` whole records, `out` has room for 83.
