@@ -1,6 +1,7 @@
 -- Rows and vectors of document 01, by computation, and the laws that code proofs cite.
 pub mod Choices
 pub mod Told
+pub mod ToldStored
 pub mod Limbs
 pub mod ToldVerdicts
 pub mod Verdicts
@@ -14,4 +15,5 @@ pub mod Rows
 pub mod Table
 pub mod Vectors
 pub mod Loading
+pub mod Forms
 pub mod Checked

@@ -22,3 +22,7 @@ pub mod Win
 pub mod Margin
 pub mod Validate
 pub mod Trust
+pub mod Stored
+pub mod Text
+pub mod Printed
+pub mod Words

@@ -11,6 +11,8 @@ use Rattle.rules.specs.Choice.{below, equal}
 use Rattle.rules.specs.Bytes.{filled}
 use Rattle.rules.specs.Records.{recordsIn}
 use Rattle.rules.specs.Wide.{val}
+use Rattle.rules.specs.declared.records.KernelInput.{KernelInput}
+use Rattle.rules.specs.declared.records.PolicySnapshot.{PolicySnapshot}
 use Rattle.rules.specs.declared.refusal.Refusal.{Refusal}
 use Rattle.rules.specs.declared.refusal.Refusal.the-variants as refusal
 use Rattle.rules.specs.declared.refusal.Outcome.{Outcome}
@@ -30,6 +32,12 @@ use Rattle.rules.specs.declared.decision.UtilityFound.{UtilityFound}
 use Rattle.rules.specs.declared.decision.UtilityFound.the-variants as utility
 use Rattle.rules.specs.declared.decision.Found.{Found}
 use Rattle.rules.specs.declared.decision.Found.the-variants as found
+use Rattle.rules.specs.declared.stored.StoredRead.{StoredRead}
+use Rattle.rules.specs.declared.stored.StoredRead.the-variants as stored
+use Rattle.rules.specs.declared.stored.RequestRead.{RequestRead}
+use Rattle.rules.specs.declared.stored.RequestRead.the-variants as request
+use Rattle.rules.specs.declared.stored.Written.{Written}
+use Rattle.rules.specs.declared.stored.Written.the-variants as written
 use Rattle.rules.specs.declared.verdict.CandidateVerdict.{CandidateVerdict}
 use Rattle.rules.specs.declared.verdict.CandidateVerdict.the-variants as verdict
 use Rattle.rules.specs.declared.verdict.UtilityTerms.{UtilityTerms}
@@ -218,6 +226,26 @@ abbrev pub toldFound : Found → Answer (Option ℕ)
 toldFound (found.Refused r) = refused (toldRefusal r)
 toldFound (found.At place) = answered (some place)
 toldFound found.Nowhere = answered none
+
+-- ---- stored forms
+
+-- B11. What reading a stored form answers: the policy, and how many bytes of models now stand in the buffer
+pub record StoredPolicy : Type 0 where
+  pub policy : PolicySnapshot
+  pub size : ℕ
+
+abbrev pub toldStored : StoredRead → Answer StoredPolicy
+toldStored (stored.Refused r) = refused (toldRefusal r)
+toldStored (stored.Read p size) = answered (record { policy = p; size = size })
+
+-- B11. Reading a request form, and writing: how many bytes were written
+abbrev pub toldRequest : RequestRead → Answer KernelInput
+toldRequest (request.Refused r) = refused (toldRefusal r)
+toldRequest (request.Read q) = answered q
+
+abbrev pub toldWritten : Written → Answer ℕ
+toldWritten (written.Refused r) = refused (toldRefusal r)
+toldWritten (written.Bytes n) = answered n
 
 -- ---- verdicts
 

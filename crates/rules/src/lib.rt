@@ -5,6 +5,7 @@ pub mod decision;
 pub mod limits;
 pub mod records;
 pub mod refusal;
+pub mod stored;
 pub mod verdict;
 pub mod wide;
 
@@ -28,6 +29,9 @@ pub use records::PolicySnapshot;
 pub use refusal::Outcome;
 pub use refusal::Refusal;
 pub use refusal::Trusted;
+pub use stored::RequestRead;
+pub use stored::StoredRead;
+pub use stored::Written;
 pub use verdict::CandidateVerdict;
 pub use verdict::GateDetail;
 pub use verdict::NextEligible;

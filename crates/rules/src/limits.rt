@@ -29,3 +29,14 @@ pub const POLICY_BYTES: usize = 30;
 pub const EXPLANATION_BYTES: usize = 72;
 // The place that a rejection carries.
 pub const NO_PLACE: u16 = 65_535;
+
+// A stored field's tag and length, and a model's and a request's bytes in a field.
+pub const FIELD_HEADER_BYTES: usize = 3;
+
+pub const STORED_RECORD_BYTES: usize = 47;
+
+pub const STORED_REQUEST_BYTES: usize = 70;
+// The most models of a stored form, and of the program.
+pub const MAX_STORED_MODELS: usize = 1_394;
+
+pub const MAX_PROGRAM_MODELS: usize = 900;

@@ -1,0 +1,45 @@
+-- What document 01 tells of reading and writing a stored form determines the answer, as in `Told`. Assumes nothing.
+use Prim.Native.Nat.{ℕ}
+use mathlib.Core.Path.{_≡_, refl, ap}
+use Rattle.rules.specs.Numbers.{Answer, refused, answered, StoredPolicy, toldStored, toldRequest, toldWritten}
+use Rattle.rules.specs.declared.records.KernelInput.{KernelInput}
+use Rattle.rules.specs.declared.stored.StoredRead.{StoredRead}
+use Rattle.rules.specs.declared.stored.StoredRead.the-variants as stored
+use Rattle.rules.specs.declared.stored.RequestRead.{RequestRead}
+use Rattle.rules.specs.declared.stored.RequestRead.the-variants as request
+use Rattle.rules.specs.declared.stored.Written.{Written}
+use Rattle.rules.specs.declared.stored.Written.the-variants as written
+use Rattle.rules.proofs.Told.{one-answer, Determined, refusalFrom, refusal-back}
+
+abbrev pub storedFrom : Answer StoredPolicy → StoredRead
+storedFrom (refused f) = stored.Refused (refusalFrom f)
+storedFrom (answered s) = stored.Read (s .policy) (s .size)
+
+pub stored-back : (a : StoredRead) → storedFrom (toldStored a) ≡ a
+stored-back (stored.Refused r) = ap stored.Refused (refusal-back r)
+stored-back (stored.Read p size) = refl
+
+abbrev pub requestFrom : Answer KernelInput → RequestRead
+requestFrom (refused f) = request.Refused (refusalFrom f)
+requestFrom (answered q) = request.Read q
+
+pub request-back : (a : RequestRead) → requestFrom (toldRequest a) ≡ a
+request-back (request.Refused r) = ap request.Refused (refusal-back r)
+request-back (request.Read q) = refl
+
+abbrev pub writtenFrom : Answer ℕ → Written
+writtenFrom (refused f) = written.Refused (refusalFrom f)
+writtenFrom (answered n) = written.Bytes n
+
+pub written-back : (a : Written) → writtenFrom (toldWritten a) ≡ a
+written-back (written.Refused r) = ap written.Refused (refusal-back r)
+written-back (written.Bytes n) = refl
+
+pub one-stored : Determined toldStored
+one-stored = one-answer toldStored storedFrom stored-back
+
+pub one-request : Determined toldRequest
+one-request = one-answer toldRequest requestFrom request-back
+
+pub one-written : Determined toldWritten
+one-written = one-answer toldWritten writtenFrom written-back

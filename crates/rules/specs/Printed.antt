@@ -1,0 +1,142 @@
+-- Document 01, "The example bank": what the unit's program prints; and the answer to the question asked at the desk.
+use Prim.Native.Nat.{ℕ}
+use mathlib.Core.List.{List, [], _∷_, _++_}
+use mathlib.Core.Option.{Option, none, some}
+use lib.ListN.{length, take}
+use Rattle.rules.specs.Limits.{maxProgramModels}
+use Rattle.rules.specs.Choice.{below}
+use Rattle.rules.specs.Records.{Listed, policyOf, inputOf, recordsIn, listedOf}
+use Rattle.rules.specs.Numbers.{Fault, Faults, fault, roomFaults, listUnless, Answer, answered, unless, Decision, Entry, Boundary}
+use Rattle.rules.specs.Listing.{firstListed}
+use Rattle.rules.specs.Decide.{decisionOf, countsIn, requestFaults}
+use Rattle.rules.specs.Win.{winIn}
+use Rattle.rules.specs.Margin.{marginIn}
+use Rattle.rules.specs.Validate.{catalogFaults}
+use Rattle.rules.specs.Stored.{bodyOf, afterOf, formFaults}
+use Rattle.rules.specs.Text.{text, decimal, signedDecimal, line}
+use Rattle.rules.specs.declared.records.KernelInput.{KernelInput}
+use Rattle.rules.specs.declared.records.PolicySnapshot.{PolicySnapshot}
+use Rattle.rules.specs.declared.decision.RejectionHistogram.{RejectionHistogram}
+
+-- ---- lines
+
+-- X2. The decision's fields, in their order
+unfoldable pub decisionLine : Decision → List ℕ
+decisionLine d =
+    line (text "decision")
+    (decimal (d .sequence)
+    ∷ decimal (d .action)
+    ∷ decimal (d .reason)
+    ∷ decimal (d .model)
+    ∷ decimal (d .place)
+    ∷ decimal (d .cost)
+    ∷ signedDecimal (d .utility)
+    ∷ decimal (d .other)
+    ∷ signedDecimal (d .otherUtility)
+    ∷ decimal (d .evaluated)
+    ∷ decimal (d .eligible)
+    ∷ decimal (d .policyEpoch)
+    ∷ decimal (d .catalogEpoch)
+    ∷ [])
+
+-- X2. The nine counts, in theirs
+unfoldable pub countsLine : RejectionHistogram → List ℕ
+countsLine c =
+    line (text "rejected")
+    (decimal (c .disabled)
+    ∷ decimal (c .quality)
+    ∷ decimal (c .«risk_ceiling»)
+    ∷ decimal (c .latency)
+    ∷ decimal (c .capability)
+    ∷ decimal (c .provider)
+    ∷ decimal (c .region)
+    ∷ decimal (c .budget)
+    ∷ decimal (c .utility)
+    ∷ [])
+
+-- X3. A lever: its number, today's value, the boundary, and the cost there or a dash
+unfoldable pub costText : Option ℕ → List ℕ
+costText none = text "-"
+costText (some c) = decimal c
+
+unfoldable pub leverLine : Entry → List ℕ
+leverLine e =
+    line (text "lever") (decimal (e .lever) ∷ decimal (e .current) ∷ decimal (e .boundary) ∷ costText (e .cost) ∷ [])
+
+unfoldable pub leverLines : List Entry → List ℕ
+leverLines [] = []
+leverLines (e ∷ es) = leverLine e ++ leverLines es
+
+-- the entries of an answer, without its unused rooms
+abbrev pub entriesOf : Boundary → List Entry
+entriesOf b = take (b .count) (b .levers)
+
+unfoldable pub passesLine : ℕ → List ℕ
+passesLine n = line (text "passes") (decimal n ∷ [])
+
+-- X3. Bad input prints this alone
+unfoldable pub refusedLine : Fault → List ℕ
+refusedLine f = line (text "refused") (decimal (f .number) ∷ [])
+
+abbrev pub textUnless : Faults → List ℕ → List ℕ
+textUnless [] t = t
+textUnless (f ∷ fs) t = refusedLine f
+
+-- ---- the unit's program
+
+-- X3. What its input says: tag 1, tag 2, tag 3
+abbrev pub programPolicy : List ℕ → PolicySnapshot
+programPolicy input = policyOf (bodyOf input)
+
+abbrev pub programBank : List ℕ → List ℕ
+programBank input = bodyOf (afterOf input)
+
+abbrev pub programModels : List ℕ → List Listed
+programModels input = listedOf (programBank input)
+
+abbrev pub programRequest : List ℕ → KernelInput
+programRequest input = inputOf (bodyOf (afterOf (afterOf input)))
+
+-- N19, X3. Its tests: 20 to 22 over all three fields, 19, validation, 3
+unfoldable pub programFaults : List ℕ → Faults
+programFaults input =
+    formFaults (1 ∷ 2 ∷ 3 ∷ []) input
+    ++ below maxProgramModels (recordsIn (length (programBank input))) (fault 19 ∷ []) []
+    ++ catalogFaults (programPolicy input) (programModels input)
+    ++ requestFaults (programRequest input) 0
+
+-- X3. Decision, counts and margin; a rejection has no margin, so it prints the first two lines
+unfoldable pub unitReport : PolicySnapshot → KernelInput → List Listed → List ℕ
+unitReport p q ls = decisionLine (decisionOf p q ls) ++ countsLine (countsIn p q ls) ++ leverLines (entriesOf (marginIn p q ls))
+
+unfoldable pub unitText : List ℕ → List ℕ
+unitText input = textUnless (programFaults input) (unitReport (programPolicy input) (programRequest input) (programModels input))
+
+-- ---- the question from the desk: what would make a model win
+
+-- N5. After all else, an id that isn't listed
+abbrev pub unlistedFaults : Option Listed → Faults
+unlistedFaults none = fault 5 ∷ []
+unlistedFaults (some l) = []
+
+unfoldable pub askFaults : ℕ → List ℕ → Faults
+askFaults id input = programFaults input ++ unlistedFaults (firstListed id (programModels input))
+
+-- The decision, the levers that win, the passes
+unfoldable pub askReport : Decision → Boundary → List ℕ
+askReport d b = decisionLine d ++ leverLines (entriesOf b) ++ passesLine (b .passes)
+
+abbrev pub askedOf : ℕ → List ℕ → Boundary
+askedOf id input = winIn (programPolicy input) (programRequest input) (programModels input) id
+
+unfoldable pub askText : ℕ → List ℕ → List ℕ
+askText id input = textUnless (askFaults id input) (askReport (askedOf id input .decision) (askedOf id input))
+
+-- ---- as calls
+
+-- N4. A text goes to the start of a lent buffer: 4 where it doesn't fit; the answer is its length
+unfoldable pub printOf : List ℕ → ℕ → Answer ℕ
+printOf t room = unless (roomFaults (length t) room) (answered (length t))
+
+unfoldable pub printBuffer : List ℕ → List ℕ → List ℕ
+printBuffer t buffer = listUnless (roomFaults (length t) (length buffer)) t buffer

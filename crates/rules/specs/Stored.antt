@@ -1,0 +1,108 @@
+-- Document 01, "Bytes": the stored form of a policy with its bank, and the request form.
+use Prim.Native.Nat.{ℕ, _+_, _/_, _%_}
+use mathlib.Core.Bool.{Bool, false, cond, _&&_}
+use mathlib.Core.List.{List, [], _∷_, _++_}
+use lib.Dec.{eqb, leb}
+use lib.ListN.{length, take, drop}
+use Rattle.rules.specs.Limits.{policyBytes, fieldHeaderBytes, storedRecordBytes, storedRequestBytes, maxStoredModels}
+use Rattle.rules.specs.Choice.{below, equal}
+use Rattle.rules.specs.Bytes.{field, bytesOf, valueOf}
+use Rattle.rules.specs.Records.{policyOf, policyInBytes, inputOf, inputBytes, recordsIn}
+use Rattle.rules.specs.Numbers.{Faults, fault, bankFaults, roomFaults, listUnless, Answer, answered, unless, StoredPolicy}
+use Rattle.rules.specs.declared.records.KernelInput.{KernelInput}
+use Rattle.rules.specs.declared.records.PolicySnapshot.{PolicySnapshot}
+
+-- ---- fields
+
+-- B11. A field: its tag in one byte, the length of its body in two, its body
+unfoldable pub fieldBytes : ℕ → List ℕ → List ℕ
+fieldBytes tag body = tag ∷ bytesOf 2 (length body) ++ body
+
+-- B11. The lengths that a tag's body may have: tag 1 a policy's, tag 2 that of 0 to 1,394 models, tag 3 a request's
+unfoldable pub fits : ℕ → ℕ → Bool
+fits tag n =
+    equal tag 1 (eqb n policyBytes)
+    (equal tag 2 (eqb (n % storedRecordBytes) 0 && leb (n / storedRecordBytes) maxStoredModels)
+    (equal tag 3 (eqb n storedRequestBytes) false))
+
+-- B11. What the field at the front of some bytes says: its tag, the length of its body, its body; and what stands after it
+abbrev pub tagOf : List ℕ → ℕ
+tagOf s = valueOf s (field 0 1)
+
+abbrev pub bodyLength : List ℕ → ℕ
+bodyLength s = valueOf s (field 1 2)
+
+unfoldable pub bodyOf : List ℕ → List ℕ
+bodyOf s = take (bodyLength s) (drop fieldHeaderBytes s)
+
+unfoldable pub afterOf : List ℕ → List ℕ
+afterOf s = drop (fieldHeaderBytes + bodyLength s) s
+
+-- N20, N21, N22, N25. Where a field with a tag is due: no byte is 21; then 20 for a cut header, 21 for another tag, 22 for a length that the
+-- tag doesn't have, 20 for a cut body
+unfoldable pub fieldFaults : ℕ → List ℕ → Faults
+fieldFaults tag s =
+    equal (length s) 0 (fault 21 ∷ []) []
+    ++ below (length s) fieldHeaderBytes (fault 20 ∷ []) []
+    ++ equal (tagOf s) tag [] (fault 21 ∷ [])
+    ++ cond (fits tag (bodyLength s)) [] (fault 22 ∷ [])
+    ++ below (length s) (fieldHeaderBytes + bodyLength s) (fault 20 ∷ []) []
+
+-- N21, N25. Fields with these tags, one after the other, then the end: any byte after the last field is 21
+unfoldable pub formFaults : List ℕ → List ℕ → Faults
+formFaults [] s = equal (length s) 0 [] (fault 21 ∷ [])
+formFaults (tag ∷ tags) s = fieldFaults tag s ++ formFaults tags (afterOf s)
+
+-- ---- a policy with its bank
+
+-- B11. Tag 1 with the policy, then tag 2 with the models
+unfoldable pub storedForm : PolicySnapshot → List ℕ → List ℕ
+storedForm p bank = fieldBytes 1 (policyInBytes p) ++ fieldBytes 2 bank
+
+-- N18, N23. Writing one: 1, 2, 18, 4; the answer is its length
+unfoldable pub writeFaults : PolicySnapshot → List ℕ → ℕ → Faults
+writeFaults p bank room =
+    bankFaults bank
+    ++ below maxStoredModels (recordsIn (length bank)) (fault 18 ∷ []) []
+    ++ roomFaults (length (storedForm p bank)) room
+
+unfoldable pub writeStoredOf : PolicySnapshot → List ℕ → ℕ → Answer ℕ
+writeStoredOf p bank room = unless (writeFaults p bank room) (answered (length (storedForm p bank)))
+
+unfoldable pub writeStoredBuffer : PolicySnapshot → List ℕ → List ℕ → List ℕ
+writeStoredBuffer p bank buffer = listUnless (writeFaults p bank (length buffer)) (storedForm p bank) buffer
+
+-- B11. Reading one: its policy, and the models' bytes
+abbrev pub storedPolicy : List ℕ → PolicySnapshot
+storedPolicy form = policyOf (bodyOf form)
+
+abbrev pub storedBank : List ℕ → List ℕ
+storedBank form = bodyOf (afterOf form)
+
+-- N25. The form's own faults come first, 4 last
+unfoldable pub readFaults : List ℕ → ℕ → Faults
+readFaults form room = formFaults (1 ∷ 2 ∷ []) form ++ roomFaults (length (storedBank form)) room
+
+unfoldable pub readStoredOf : List ℕ → ℕ → Answer StoredPolicy
+readStoredOf form room =
+    unless (readFaults form room)
+    (answered (record { policy = storedPolicy form; size = length (storedBank form) }))
+
+-- B11. The models' bytes at the start of the lent buffer, its other bytes as they were
+unfoldable pub readStoredBuffer : List ℕ → List ℕ → List ℕ
+readStoredBuffer form buffer = listUnless (readFaults form (length buffer)) (storedBank form) buffer
+
+-- ---- a request
+
+-- B11. Tag 3 with the request
+unfoldable pub requestForm : KernelInput → List ℕ
+requestForm q = fieldBytes 3 (inputBytes q)
+
+unfoldable pub writeRequestOf : KernelInput → ℕ → Answer ℕ
+writeRequestOf q room = unless (roomFaults (length (requestForm q)) room) (answered (length (requestForm q)))
+
+unfoldable pub writeRequestBuffer : KernelInput → List ℕ → List ℕ
+writeRequestBuffer q buffer = listUnless (roomFaults (length (requestForm q)) (length buffer)) (requestForm q) buffer
+
+unfoldable pub readRequestOf : List ℕ → Answer KernelInput
+readRequestOf form = unless (formFaults (3 ∷ []) form) (answered (inputOf (bodyOf form)))
