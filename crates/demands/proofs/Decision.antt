@@ -22,7 +22,7 @@ module _ (p : PolicySnapshot) (q : KernelInput) (ls : List Listed) (goesOn : sto
   unfolding decisionOf
   decided = below-no 0 (stoppedBy p q) (rejection p q (stoppedBy p q) 0) (decidedOf p q (judged p q ls)) (omega arith)
 
-  chosen-is : (c : Candidate) (rest : List Candidate) → ranking (judged p q ls) ≡ c ∷ rest → decisionOf p q ls ≡ chosen p q (length (judged p q ls)) c rest
+  pub chosen-is : (c : Candidate) (rest : List Candidate) → ranking (judged p q ls) ≡ c ∷ rest → decisionOf p q ls ≡ chosen p q (length (judged p q ls)) c rest
   unfolding decidedOf
   chosen-is c rest e = decided ∙ rw e
 

@@ -6,10 +6,12 @@ mod settle;
 mod worth;
 
 pub use price::cost;
+pub use price::cost_exact;
 pub use price::scaled_price;
 use rules::Wide;
 pub use settle::pricing_of;
 pub use worth::terms;
+pub use worth::terms_wide;
 pub use worth::utility_of;
 pub use worth::utility_terms;
 

@@ -64,6 +64,18 @@ pub fn cost(model: KernelModel, input: KernelInput) -> u64
     cost_wide(tokens, price, more, dear)
 }
 
+// The same by two limbs alone, for callers outside a scan's loop: `cost` has one caller, so that it is compiled into that loop.
+pub fn cost_exact(model: KernelModel, input: KernelInput) -> u64
+    ensures { λ r. ⌜ r ≡ costOf model input ⌝ }
+{
+    cost_wide(
+        input.input_tokens,
+        model.input_cost_microunits_per_million_tokens,
+        input.output_tokens,
+        model.output_cost_microunits_per_million_tokens,
+    )
+}
+
 // A scaled price by two limbs.
 fn scaled_price_wide(price: u64, scale: u64) -> u64
     ensures { λ r. ⌜ r ≡ scaledPrice price scale ⌝ }

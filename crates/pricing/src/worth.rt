@@ -66,8 +66,8 @@ fn score_wide(gain: Wide, loss: Wide) -> u64
     limbs::held(left.size)
 }
 
-// A model's terms by two limbs.
-fn terms_wide(pr: Pricing, model: KernelModel, cost: u64) -> ScoredTerms
+// A model's terms by two limbs, also for callers outside a scan's loop.
+pub fn terms_wide(pr: Pricing, model: KernelModel, cost: u64) -> ScoredTerms
     requires { ⌜ Settled pr ⌝ }
     ensures { λ r. ⌜ r ≡ termsWith pr model cost ⌝ }
 {

@@ -117,7 +117,7 @@ lengthFaults n =
 abbrev pub bankFaults : List ℕ → Faults
 bankFaults bank = lengthFaults (length bank)
 
--- N4. A list or buffer of so many bytes, where so many are needed
+-- N4. A list, row or buffer with so much room, where so much is needed
 unfoldable pub roomFaults : ℕ → ℕ → Faults
 roomFaults needed room = below room needed (fault 4 ∷ []) []
 

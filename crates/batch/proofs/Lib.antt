@@ -1,0 +1,6 @@
+-- Laws on the tests of a batch and on the row that it fills, and that its answers are determined.
+pub mod Filling
+pub mod Testing
+pub mod Batches
+pub mod Asking
+pub mod Answers

@@ -1,0 +1,23 @@
+-- ANY TWO PERMITTED ANSWERS ARE EQUAL, for each call that a user makes: what is told has a way back, and the bank at exit is the rule's.
+-- Assumes nothing.
+use Prim.Native.Nat.{ℕ}
+use mathlib.Core.List.{List}
+use mathlib.Core.Path.{_≡_, sym, _∙_}
+use Rattle.rules.specs.Numbers.{toldOutcome, toldTrusted}
+use Rattle.rules.specs.Validate.{validateOf}
+use Rattle.rules.specs.Trust.{trustOf, trustBank}
+use Rattle.rules.specs.declared.refusal.Outcome.{Outcome}
+use Rattle.rules.specs.declared.refusal.Trusted.{Trusted}
+use Rattle.rules.specs.declared.records.PolicySnapshot.{PolicySnapshot}
+use Rattle.rules.proofs.Told.{one-outcome, one-trusted}
+
+module _ (p : PolicySnapshot) (bank : List ℕ) where
+  pub one-validate : (r s : Outcome) → toldOutcome r ≡ validateOf p bank → toldOutcome s ≡ validateOf p bank → r ≡ s
+  one-validate = one-outcome _
+
+  -- what `trust` promises of its answer and of the bank at exit
+  abbrev pub Permitted : Trusted → List ℕ → Type 0
+  Permitted r exit = (toldTrusted r ≡ trustOf p bank) × (exit ≡ trustBank bank)
+
+  pub one-trust : (r s : Trusted) (a b : List ℕ) → Permitted r a → Permitted s b → (r ≡ s) × (a ≡ b)
+  one-trust r s a b x y = (one-trusted _ r s (x .0) (y .0), x .1 ∙ sym (y .1))

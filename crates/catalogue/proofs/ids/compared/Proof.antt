@@ -1,0 +1,61 @@
+-- `catalogue::compared` meets its contract. The loop's invariant: no record passed has the id. Assumes nothing.
+use Prim.Native.Nat.{_-_, _≤_}
+use native.Mathlib.Omega.{arith}
+use mathlib.Core.Path.{_≡_, refl, _∙_}
+use denote.Ref.{now}
+use Rattle.rules.specs.Validate.{repeatFaults}
+use Rattle.rules.specs.Records.{modelAt}
+use Rattle.kernel.specs.Refuse.{leading, toldLeading}
+use Rattle.catalogue.specs.Ids.{earlierIds}
+use Rattle.catalogue.proofs.Walks.{before, id-model, repeat-here, repeat-later, repeat-none}
+use Rattle.catalogue.proofs.ids.compared.Statement.{statement}
+use Rattle.catalogue.proofs.ids.compared.Tie as tie
+
+abbrev Inv-loop : tie.InvT-loop
+Inv-loop bank place id i₀ i =
+    (i ≤ place) × (id ≡ modelAt bank place .«model_id») × (repeatFaults (earlierIds bank place) id ≡ repeatFaults (before bank place i) id)
+
+abbrev μ-loop : tie.MeasureT-loop
+μ-loop bank place id i₀ i = place - i
+
+loop-holds : tie.Need-loop-holds Inv-loop μ-loop
+loop-holds c =
+    let a = c .before .before .args in
+    (omega arith, id-model (now (a .bank)) (a .place) _ (c .id-at .ensures), refl)
+
+returns : tie.Need-returns Inv-loop μ-loop
+unfolding leading toldLeading
+returns c =
+    let m = c .before in
+    let l = m .before .before .loop in
+    let a = m .before .before .before .before .before .args in
+    rw (← l .inv .1, l .inv .2 ∙ repeat-here (now (a .bank)) (a .place) (l .i) _ _ (omega arith) (omega arith) (m .id-at2 .ensures) (c .if1 .taken))
+
+loop-again : tie.Need-loop-again Inv-loop μ-loop
+loop-again c =
+    let m = c .before in
+    let l = m .before .before .loop in
+    let a = m .before .before .before .before .before .args in
+    (omega arith, l .inv .1, l .inv .2 ∙ repeat-later (now (a .bank)) (a .place) (l .i) _ _ (omega arith) (omega arith) (m .id-at2 .ensures) (c .if1 .left))
+
+returns-2 : tie.Need-returns-2 Inv-loop μ-loop
+unfolding leading toldLeading
+returns-2 c =
+    let l = c .before .loop in
+    let a = c .before .before .before .before .args in
+    rw (← l .inv .1, l .inv .2 ∙ repeat-none (now (a .bank)) (a .place) (l .i) _ (omega arith) (omega arith))
+
+pub compared-spec : {M : Type 1} → statement M
+compared-spec =
+    tie.close
+    (tie.spec
+    Inv-loop
+    μ-loop
+    (λ c κs. omega arith)
+    loop-holds
+    (λ c κs. omega arith)
+    returns
+    (λ c. omega arith)
+    (λ c. omega arith)
+    loop-again
+    returns-2)

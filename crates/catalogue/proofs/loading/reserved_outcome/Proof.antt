@@ -1,0 +1,52 @@
+-- `catalogue::reserved_outcome` meets its contract. The loop's invariant: no record passed has id 0. Assumes nothing.
+use Prim.Native.Nat.{_-_, _≤_}
+use native.Mathlib.Omega.{arith}
+use mathlib.Core.Path.{_≡_, refl, _∙_}
+use Rattle.rules.specs.Records.{listedOf}
+use Rattle.rules.specs.Trust.{reservedFaults}
+use Rattle.kernel.specs.Refuse.{leading, toldLeading}
+use Rattle.catalogue.proofs.Walks.{rest, reserved-here, reserved-later, reserved-none}
+use Rattle.catalogue.proofs.loading.reserved_outcome.Statement.{statement}
+use Rattle.catalogue.proofs.loading.reserved_outcome.Tie as tie
+
+abbrev Inv-loop : tie.InvT-loop
+Inv-loop bank n i₀ i = (i ≤ n) × (reservedFaults (listedOf bank) ≡ reservedFaults (rest bank i))
+
+abbrev μ-loop : tie.MeasureT-loop
+μ-loop bank n i₀ i = n - i
+
+loop-holds : tie.Need-loop-holds Inv-loop μ-loop
+loop-holds c = (omega arith, refl)
+
+returns : tie.Need-returns Inv-loop μ-loop
+unfolding leading toldLeading
+returns c =
+    let m = c .before in
+    let l = m .before .before .loop in
+    rw (l .inv .1 ∙ reserved-here _ (l .i) _ (omega arith) (m .id-at .ensures) (c .if1 .taken))
+
+loop-again : tie.Need-loop-again Inv-loop μ-loop
+loop-again c =
+    let m = c .before in
+    let l = m .before .before .loop in
+    (omega arith, l .inv .1 ∙ reserved-later _ (l .i) _ (omega arith) (m .id-at .ensures) (c .if1 .left))
+
+returns-2 : tie.Need-returns-2 Inv-loop μ-loop
+unfolding leading toldLeading
+returns-2 c =
+    let l = c .before .loop in
+    rw (l .inv .1 ∙ reserved-none _ (l .i) (omega arith))
+
+pub reserved-outcome-spec : {M : Type 1} → statement M
+reserved-outcome-spec =
+    tie.close
+    (tie.spec
+    Inv-loop
+    μ-loop
+    loop-holds
+    (λ c κs. omega arith)
+    returns
+    (λ c. omega arith)
+    (λ c. omega arith)
+    loop-again
+    returns-2)

@@ -1,0 +1,32 @@
+-- `catalogue::record_outcome` meets its contract: 12, then 13 and 14. Assumes nothing.
+use borrow.Author.Needs.{needs}
+use Rattle.rules.specs.Validate.{recordFaults}
+use Rattle.catalogue.proofs.Stages.{passed, stopped, stops}
+use Rattle.catalogue.proofs.records.record_outcome.Statement.{statement}
+use Rattle.catalogue.proofs.records.record_outcome.Tie as tie
+
+returns : tie.Need-returns
+unfolding recordFaults
+returns c =
+    let o = c .before in
+    let e = o .repeated .given .1 in
+    stopped _ e (stops _ _ e (stops _ _ e (o .before .before .repeat-outcome .ensures)))
+
+returns-2 : tie.Need-returns-2
+unfolding recordFaults
+returns-2 c =
+    let m = c .before in
+    let o = m .before in
+    rw (passed _ (o .enum-told .given .1) (o .before .before .repeat-outcome .ensures), ← m .model-at .ensures) (c .model-outcome .ensures)
+
+pub record-outcome-spec : {M : Type 1} → statement M
+record-outcome-spec =
+    tie.close
+    (tie.spec
+    (λ c κs. search needs)
+    (λ c. search needs)
+    returns
+    (λ c. search needs)
+    (λ c κs. search needs)
+    (λ c κs. search needs)
+    returns-2)

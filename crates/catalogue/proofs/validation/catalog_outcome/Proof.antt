@@ -1,0 +1,60 @@
+-- `catalogue::catalog_outcome` meets its contract: 10, 11, the records, 15. Assumes nothing.
+use borrow.Author.Needs.{needs}
+use Rattle.rules.specs.Validate.{catalogFaults}
+use Rattle.rules.specs.declared.refusal.Refusal.the-variants.{EmptyCatalog}
+use Rattle.catalogue.proofs.Stages.{passed, stopped, stops, tells}
+use Rattle.catalogue.proofs.Walks.{empty-yes, empty-no}
+use Rattle.catalogue.proofs.validation.catalog_outcome.Statement.{statement}
+use Rattle.catalogue.proofs.validation.catalog_outcome.Tie as tie
+
+returns : tie.Need-returns
+unfolding catalogFaults
+returns c =
+    let o = c .before in
+    let e = o .limits .given .1 in
+    stopped _ e (stops _ _ e (stops _ _ e (stops _ _ e (o .before .before .policy-outcome .ensures))))
+
+returns-2 : tie.Need-returns-2
+unfolding catalogFaults
+returns-2 c =
+    let o = c .before in
+    rw (passed _ (o .enum-told .given .1) (o .before .before .policy-outcome .ensures), empty-yes _ (c .if1 .taken)) (tells EmptyCatalog _)
+
+returns-3 : tie.Need-returns-3
+unfolding catalogFaults
+returns-3 c =
+    let r = c .before in
+    let n = r .before .before .before in
+    let o = n .before in
+    let e = r .records .given .1 in
+    rw (passed _ (o .enum-told .given .1) (o .before .before .policy-outcome .ensures), empty-no _ (n .if1 .left))
+    (stopped _ e (stops _ _ e (r .before .before .records-outcome .ensures)))
+
+returns-4 : tie.Need-returns-4
+unfolding catalogFaults
+returns-4 c =
+    let r = c .before in
+    let n = r .before .before .before in
+    let o = n .before in
+    rw (
+      passed _ (o .enum-told .given .1) (o .before .before .policy-outcome .ensures),
+      empty-no _ (n .if1 .left),
+      passed _ (r .enum-told2 .given .1) (r .before .before .records-outcome .ensures),
+    )
+    (c .off-outcome .ensures)
+
+pub catalog-outcome-spec : {M : Type 1} → statement M
+catalog-outcome-spec =
+    tie.close
+    (tie.spec
+    (λ c κs. search needs)
+    (λ c. search needs)
+    returns
+    (λ c. search needs)
+    returns-2
+    (λ c κs. search needs)
+    (λ c. search needs)
+    returns-3
+    (λ c. search needs)
+    (λ c κs. search needs)
+    returns-4)

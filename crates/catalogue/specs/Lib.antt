@@ -1,0 +1,2 @@
+-- The ids of a bank.
+pub mod Ids

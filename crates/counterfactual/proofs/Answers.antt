@@ -1,0 +1,18 @@
+-- ANY TWO PERMITTED ANSWERS ARE EQUAL, for both calls: the rule that a promise cites is told, and what is told has a way back. Assumes
+-- nothing.
+use Prim.Native.Nat.{ℕ}
+use mathlib.Core.List.{List}
+use Rattle.rules.specs.Numbers.{toldBoundaries}
+use Rattle.rules.specs.Win.{whatWouldWinOf}
+use Rattle.rules.specs.Margin.{decisionMarginOf}
+use Rattle.rules.specs.declared.records.KernelInput.{KernelInput}
+use Rattle.rules.specs.declared.records.PolicySnapshot.{PolicySnapshot}
+use Rattle.rules.proofs.Told.{one-boundaries}
+use Rattle.kernel.proofs.Answers.{Same}
+
+module _ (p : PolicySnapshot) (q : KernelInput) (bank : List ℕ) where
+  pub one-what-would-win : (id : ℕ) → Same toldBoundaries (whatWouldWinOf p q bank id)
+  one-what-would-win id = one-boundaries _
+
+  pub one-decision-margin : Same toldBoundaries (decisionMarginOf p q bank)
+  one-decision-margin = one-boundaries _

@@ -1,0 +1,65 @@
+-- What is found of an id, what may then be asked, and an answer by its parts. Assumes nothing.
+use Prim.Native.Nat.{ℕ}
+use mathlib.Core.Path.{_≡_, refl, sym, ap, ap₂, _∙_}
+use mathlib.Core.Bool.{Bool}
+use mathlib.Core.List.{List, [], _∷_}
+use mathlib.Core.Logic.{⊎-elim}
+use mathlib.Core.Option.{Option, none, some}
+use borrow.Author.Tests.{eqb-false}
+use denote.Enum.Declared.{tagOf}
+use types.Run.{OneOf}
+use Rattle.rules.specs.Records.{listedOf}
+use Rattle.rules.specs.Numbers.{Faults, bankFaults, noFault, answered, toldRefusal, toldFound, Decision, Boundary}
+use Rattle.rules.specs.Listing.{firstListed, placeOf}
+use Rattle.rules.specs.Levers.{Sought, noSearch, boundaryOf, boundaryRefused, boundaryUnless}
+use Rattle.rules.specs.declared.records.KernelInput.{KernelInput}
+use Rattle.rules.specs.declared.records.PolicySnapshot.{PolicySnapshot}
+use Rattle.rules.specs.declared.refusal.Refusal.{Refusal}
+use Rattle.rules.specs.declared.refusal.Outcome.{Outcome}
+use Rattle.rules.specs.declared.refusal.Outcome.the-variants as outcome
+use Rattle.rules.specs.declared.decision.Found.{Found}
+use Rattle.rules.specs.declared.decision.Found.the-variants.{Refused, At, Nowhere}
+use Rattle.rules.proofs.decision.Found.{the-type}
+use Rattle.kernel.specs.Refuse.{leading, toldLeading}
+use Rattle.searches.specs.Asked.{askedOf, Stands}
+use Rattle.counterfactual.specs.Levers.{Room, emptyRoom, roomOf, boundaryWith}
+use Rattle.searches.specs.declared.pass.Asked.{Asked}
+
+-- an answer without a place found none
+pub without : (f : Found) (o : Option ℕ) → OneOf (0 ∷ 2 ∷ []) (tagOf the-type f) → toldFound f ≡ answered o → o ≡ none
+without (Refused r) o k e = cc
+without (At place) o k e = absurd (⊎-elim (eqb-false 1 0 refl) (eqb-false 1 2 refl) k)
+without Nowhere o k e = cc
+
+-- and one with a place found that
+pub with-place : {f : Found} {place : ℕ} {o : Option ℕ} → f ≡ At place → toldFound f ≡ answered o → o ≡ some place
+with-place e h = let k = sym (ap toldFound e) ∙ h in cc
+
+-- Tests that hand nothing back find nothing
+pub no-faults : {o : Outcome} (fs : Faults) → o ≡ outcome.Answered → toldLeading o ≡ leading fs → fs ≡ []
+unfolding leading toldLeading
+no-faults [] e h = refl
+no-faults (f ∷ fs) e h = let k = sym (ap toldLeading e) ∙ h in cc
+
+-- They leave the answer, and those that hand a number back refuse it
+pub boundary-passed : {o : Outcome} (fs : Faults) (b : Boundary) → o ≡ outcome.Answered → toldLeading o ≡ leading fs → boundaryUnless fs b ≡ b
+boundary-passed fs b e h = rw (no-faults fs e h)
+
+pub boundary-refused : {o : Outcome} {r : Refusal} (fs : Faults) (b : Boundary) → o ≡ outcome.Refused r → toldLeading o ≡ leading fs → boundaryUnless fs b ≡ boundaryRefused (toldRefusal r)
+unfolding leading toldLeading
+boundary-refused [] b e h = let k = sym (ap toldLeading e) ∙ h in cc
+boundary-refused (f ∷ fs) b e h = let k = sym (ap toldLeading e) ∙ h in cc
+
+-- THE MODEL THAT WAS FOUND MAY BE ASKED ABOUT
+pub stands-at : {k : Asked} (p : PolicySnapshot) (q : KernelInput) (bank : List ℕ) (id place : ℕ) → k ≡ askedOf p q bank id place → placeOf (firstListed id (listedOf bank)) ≡ some place → bankFaults bank ≡ [] → Stands k bank
+stands-at p q bank id place e first whole = rw e (record { first = first; whole = whole })
+
+-- ---- an answer by its parts
+
+pub empty-room : emptyRoom 1 ≡ roomOf noSearch
+unfolding roomOf
+empty-room = refl
+
+pub answer-made : {b : Boundary} {x y : Decision} {t : Room} (id : ℕ) (blocked : Bool) (s : Sought) → x ≡ y → t ≡ roomOf s → b ≡ boundaryWith noFault id x blocked t → b ≡ boundaryOf id y blocked s
+unfolding boundaryOf roomOf
+answer-made id blocked s p q e = e ∙ ap₂ (λ (x : Decision) (t : Room). boundaryWith noFault id x blocked t) p q

@@ -1,0 +1,35 @@
+-- The margin, case by case. Assumes nothing.
+use Prim.Native.Nat.{ℕ}
+use mathlib.Core.Path.{_≡_, sym, ap, _∙_}
+use mathlib.Core.Bool.{true, false}
+use mathlib.Core.List.{List}
+use mathlib.Core.Option.{none, some}
+use Rattle.rules.specs.Records.{listedOf}
+use Rattle.rules.specs.Numbers.{fault, Decision, isRejection}
+use Rattle.rules.specs.Listing.{firstListed, placeOf}
+use Rattle.rules.specs.Decide.{decisionOf}
+use Rattle.rules.specs.Levers.{boundaryOf, boundaryRefused}
+use Rattle.rules.specs.Margin.{marginLevers, marginIfListed, marginFor, marginIn}
+use Rattle.rules.specs.declared.records.KernelInput.{KernelInput}
+use Rattle.rules.specs.declared.records.PolicySnapshot.{PolicySnapshot}
+use Rattle.kernel.proofs.Finding.{found-at, found-nothing}
+use Rattle.searches.specs.Asked.{askedOf, questionOf}
+use Rattle.searches.specs.declared.pass.Asked.{Asked}
+
+module _ (p : PolicySnapshot) (q : KernelInput) (bank : List ℕ) {d : Decision} (decided : d ≡ decisionOf p q (listedOf bank)) where
+  -- A REJECTION HAS NO MARGIN
+  pub margin-rejected : isRejection d ≡ true → marginIn p q (listedOf bank) ≡ boundaryRefused (fault 6)
+  unfolding marginIn marginFor
+  margin-rejected r = rw (sym decided, r)
+
+  chosen : isRejection d ≡ false → marginIn p q (listedOf bank) ≡ marginIfListed p q (listedOf bank) d (firstListed (d .model) (listedOf bank))
+  unfolding marginIn marginFor
+  chosen r = rw (sym decided, r)
+
+  pub margin-nowhere : isRejection d ≡ false → placeOf (firstListed (d .model) (listedOf bank)) ≡ none → marginIn p q (listedOf bank) ≡ boundaryRefused (fault 6)
+  margin-nowhere r e = chosen r ∙ ap (marginIfListed p q (listedOf bank) d) (found-nothing bank (d .model) e)
+
+  -- A CHOSEN ID'S FIRST LISTED RECORD IS VARIED
+  pub margin-listed : {k : Asked} (place : ℕ) → isRejection d ≡ false → k ≡ askedOf p q bank (d .model) place → placeOf (firstListed (d .model) (listedOf bank)) ≡ some place → marginIn p q (listedOf bank) ≡ boundaryOf (d .model) d false (marginLevers (questionOf k bank))
+  unfolding questionOf
+  margin-listed place r e f = rw e (chosen r ∙ ap (marginIfListed p q (listedOf bank) d) (found-at bank (d .model) place f .0))

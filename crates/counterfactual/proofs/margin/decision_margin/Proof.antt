@@ -1,0 +1,97 @@
+-- `counterfactual::decision_margin` meets its contract. Assumes nothing.
+use borrow.Author.Needs.{needs}
+use mathlib.Core.Path.{refl, sym, _∙_}
+use Rattle.rules.specs.Margin.{decisionMarginOf}
+use Rattle.kernel.proofs.Refusals.{bank-room}
+use Rattle.kernel.proofs.Finding.{found-at}
+use Rattle.counterfactual.proofs.Listed.{without, with-place, boundary-passed, boundary-refused, no-faults, stands-at, answer-made}
+use Rattle.counterfactual.proofs.Margins.{margin-rejected, margin-nowhere, margin-listed}
+use Rattle.counterfactual.proofs.margin.decision_margin.Statement.{statement}
+use Rattle.counterfactual.proofs.margin.decision_margin.Tie as tie
+
+returns : tie.Need-returns
+unfolding decisionMarginOf
+returns c =
+    let o = c .before .before in
+    c .refused .ensures ∙ sym (boundary-refused _ _ (o .outcome .given .1) (o .before .before .bank-outcome .ensures))
+
+decide-requires : tie.Need-decide-requires
+decide-requires c κs = bank-room _ (c .enum-told .given .1) (c .before .before .bank-outcome .ensures)
+
+returns-2 : tie.Need-returns-2
+unfolding decisionMarginOf
+returns-2 c =
+    let j = c .before .before in
+    let o = j .before .before in
+    c .refused2 .ensures
+    ∙ sym (boundary-passed _ _ (o .enum-told .given .1) (o .before .before .bank-outcome .ensures)
+    ∙ margin-rejected _ _ _ (j .before .decide .ensures) (sym (j .is-rejected .ensures) ∙ c .before .if1 .taken))
+
+first-listed-requires : tie.Need-first-listed-requires
+first-listed-requires c κs =
+    let o = c .before .before .before in
+    bank-room _ (o .enum-told .given .1) (o .before .before .bank-outcome .ensures)
+
+returns-3 : tie.Need-returns-3
+unfolding decisionMarginOf
+returns-3 c =
+    let f = c .before .before in
+    let j = f .before .before in
+    let o = j .before .before in
+    c .refused3 .ensures
+    ∙ sym (boundary-passed _ _ (o .enum-told .given .1) (o .before .before .bank-outcome .ensures)
+    ∙ margin-nowhere _ _ _ (j .before .decide .ensures)
+    (sym (j .is-rejected .ensures) ∙ f .before .if1 .left)
+    (without (f .first-listed .result) _ (c .before .match2 .keys2) (f .first-listed .ensures)))
+
+asked-at-requires : tie.Need-asked-at-requires
+asked-at-requires c κs =
+    let f = c .before .before .before in
+    found-at _ _ _ (with-place (c .before .found .given .1) (f .first-listed .ensures)) .1
+
+margin-levers-requires : tie.Need-margin-levers-requires
+margin-levers-requires c κs =
+    let k = c .before .before in
+    let f = k .before .before in
+    let o = f .before .before .before .before in
+    stands-at _ _ _ _ _ (c .asked-at .ensures)
+    (with-place (k .found .given .1) (f .first-listed .ensures))
+    (no-faults _ (o .enum-told .given .1) (o .before .before .bank-outcome .ensures))
+
+returns-4 : tie.Need-returns-4
+unfolding decisionMarginOf
+returns-4 c =
+    let a = c .before .before in
+    let k = a .before .before in
+    let f = k .before .before in
+    let j = f .before .before in
+    let o = j .before .before in
+    answer-made _ _ _ refl (c .before .margin-levers .ensures) (c .answered .ensures)
+    ∙ sym (boundary-passed _ _ (o .enum-told .given .1) (o .before .before .bank-outcome .ensures)
+    ∙ margin-listed _ _ _ (j .before .decide .ensures) _
+    (sym (j .is-rejected .ensures) ∙ f .before .if1 .left)
+    (a .asked-at .ensures)
+    (with-place (k .found .given .1) (f .first-listed .ensures)))
+
+pub decision-margin-spec : {M : Type 1} → statement M
+decision-margin-spec =
+    tie.close
+    (tie.spec
+    (λ c κs. search needs)
+    (λ c. search needs)
+    (λ c κs. search needs)
+    returns
+    (λ c. search needs)
+    decide-requires
+    (λ c κs. search needs)
+    (λ c κs. search needs)
+    returns-2
+    first-listed-requires
+    (λ c. search needs)
+    (λ c κs. search needs)
+    returns-3
+    (λ c. search needs)
+    asked-at-requires
+    margin-levers-requires
+    (λ c κs. search needs)
+    returns-4)

@@ -1,0 +1,71 @@
+-- `counterfactual::what_would_win` meets its contract. Assumes nothing.
+use borrow.Author.Needs.{needs}
+use mathlib.Core.Path.{sym, _∙_}
+use Rattle.rules.specs.Win.{whatWouldWinOf}
+use Rattle.kernel.proofs.Refusals.{bank-room}
+use Rattle.kernel.proofs.Finding.{found-at}
+use Rattle.counterfactual.proofs.Listed.{without, with-place, boundary-passed, boundary-refused, no-faults, stands-at}
+use Rattle.counterfactual.proofs.Wins.{win-nowhere, win-listed}
+use Rattle.counterfactual.proofs.win.what_would_win.Statement.{statement}
+use Rattle.counterfactual.proofs.win.what_would_win.Tie as tie
+
+returns : tie.Need-returns
+unfolding whatWouldWinOf
+returns c =
+    let o = c .before .before in
+    c .refused .ensures ∙ sym (boundary-refused _ _ (o .outcome .given .1) (o .before .before .bank-outcome .ensures))
+
+first-listed-requires : tie.Need-first-listed-requires
+first-listed-requires c κs = bank-room _ (c .enum-told .given .1) (c .before .before .bank-outcome .ensures)
+
+returns-2 : tie.Need-returns-2
+unfolding whatWouldWinOf
+returns-2 c =
+    let f = c .before .before in
+    let o = f .before in
+    c .refused2 .ensures
+    ∙ sym (boundary-passed _ _ (o .enum-told .given .1) (o .before .before .bank-outcome .ensures)
+    ∙ win-nowhere _ _ _ _ (without (f .first-listed .result) _ (c .before .match2 .keys2) (f .first-listed .ensures)))
+
+asked-at-requires : tie.Need-asked-at-requires
+asked-at-requires c κs =
+    let f = c .before .before .before in
+    found-at _ _ _ (with-place (c .before .found .given .1) (f .first-listed .ensures)) .1
+
+win-for-requires : tie.Need-win-for-requires
+win-for-requires c κs =
+    let k = c .before .before in
+    let f = k .before .before in
+    let o = f .before in
+    stands-at _ _ _ _ _ (c .asked-at .ensures)
+    (with-place (k .found .given .1) (f .first-listed .ensures))
+    (no-faults _ (o .enum-told .given .1) (o .before .before .bank-outcome .ensures))
+
+returns-3 : tie.Need-returns-3
+unfolding whatWouldWinOf
+returns-3 c =
+    let a = c .before in
+    let k = a .before .before in
+    let f = k .before .before in
+    let o = f .before in
+    c .win-for .ensures
+    ∙ sym (boundary-passed _ _ (o .enum-told .given .1) (o .before .before .bank-outcome .ensures)
+    ∙ win-listed _ _ _ _ _ (a .asked-at .ensures) (with-place (k .found .given .1) (f .first-listed .ensures)))
+
+pub what-would-win-spec : {M : Type 1} → statement M
+what-would-win-spec =
+    tie.close
+    (tie.spec
+    (λ c κs. search needs)
+    (λ c. search needs)
+    (λ c κs. search needs)
+    returns
+    (λ c. search needs)
+    first-listed-requires
+    (λ c. search needs)
+    (λ c κs. search needs)
+    returns-2
+    (λ c. search needs)
+    asked-at-requires
+    win-for-requires
+    returns-3)

@@ -1,0 +1,48 @@
+-- `counterfactual::win_search` meets its contract. Assumes nothing.
+use borrow.Author.Needs.{needs}
+use native.Mathlib.Omega.{arith}
+use mathlib.Core.Path.{sym, ap, _∙_}
+use Rattle.rules.specs.Choice.{equal}
+use Rattle.searches.specs.Lever.{widest}
+use Rattle.searches.specs.Asked.{questionOf}
+use Rattle.counterfactual.specs.Levers.{roomOf}
+use Rattle.counterfactual.proofs.Wins.{search-on, search-off, off-found, off-lost}
+use Rattle.counterfactual.proofs.win.win_search.Statement.{statement}
+use Rattle.counterfactual.proofs.win.win_search.Tie as tie
+
+returns : tie.Need-returns
+unfolding questionOf
+returns c = c .win-levers .ensures ∙ ap roomOf (sym (search-on _ (c .before .if1 .taken)))
+
+wins-at-requires : tie.Need-wins-at-requires
+unfolding widest equal
+wins-at-requires c κs = record { stands = c .before .before .before .before .pre; fits = omega arith }
+
+returns-2 : tie.Need-returns-2
+unfolding questionOf
+returns-2 c =
+    let n = c .before .before in
+    let w = n .before .before in
+    off-found (n .no-levers .ensures) (c .before .plain .ensures) (c .push .ensures)
+    ∙ ap roomOf (sym (search-off _ _ (w .before .if1 .left) (sym (w .wins-at .ensures) ∙ n .before .if2 .taken)))
+
+returns-3 : tie.Need-returns-3
+unfolding questionOf
+returns-3 c =
+    let w = c .before .before in
+    off-lost (c .no-levers2 .ensures)
+    ∙ ap roomOf (sym (search-off _ _ (w .before .if1 .left) (sym (w .wins-at .ensures) ∙ c .before .if2 .left)))
+
+pub win-search-spec : {M : Type 1} → statement M
+win-search-spec =
+    tie.close
+    (tie.spec
+    (λ c κs. search needs)
+    returns
+    wins-at-requires
+    (λ c κs. search needs)
+    (λ c κs. search needs)
+    (λ c κs. search needs)
+    returns-2
+    (λ c κs. search needs)
+    returns-3)

@@ -1,0 +1,2 @@
+-- What the contracts cite beside the rules: room for four levers.
+pub mod Levers

@@ -1,0 +1,106 @@
+// An answer's levers: room for four, how many are there, and the passes. A lever for which there is no room is left out, so that no count
+// has to be asked for; four are searched at most.
+ghost use mathlib.Core.Path.{_≡_};
+ghost use mathlib.Core.Option.{none, some};
+ghost use Prim.Native.Nat.{_+_, _<_, _^_};
+ghost use Rattle.rules.specs.Limits.{ppm};
+ghost use Rattle.rules.specs.Numbers.{toldEntry};
+ghost use Rattle.rules.specs.Levers.{decisionAt, entry};
+ghost use Rattle.rules.specs.Levers as rule;
+ghost use Rattle.searches.specs.Asked.{questionOf, Stands};
+ghost use Rattle.searches.specs.Search.{passesIn};
+ghost use Rattle.counterfactual.specs.Levers.{toldLevers, emptyRoom, pushed, passed, joined};
+use rules::Bound;
+use rules::BoundaryCost;
+use rules::Levers;
+use rules::Requirement;
+use rules::limits::PPM;
+use searches::lever::PRICE_SCALE_PPM;
+use searches::pass::Asked;
+use searches::pass::decision_at;
+
+// `plain`: a lever that carries no cost.
+pub fn plain(lever: u8, current: u64, boundary: u64) -> Requirement
+    ensures { λ r. ⌜ toldEntry r ≡ entry lever current boundary none ⌝ }
+{
+    Requirement {
+        lever,
+        current,
+        boundary,
+        cost_at_boundary_microunits: BoundaryCost::Unpriced,
+    }
+}
+
+// `priced`: the price lever at a scale, with what the decision costs there. That takes a pass of its own.
+fn priced(asked: Asked, bank: &[u8], scale: u64) -> Requirement
+    requires { ⌜ Stands asked (now bank) ⌝ }
+    ensures { λ r. ⌜ toldEntry r ≡ entry 3 ppm scale (some (decisionAt (questionOf asked (now (bank .entry))) 3 scale .cost)) ⌝ }
+{
+    let decision = decision_at(asked, bank, PRICE_SCALE_PPM, scale);
+    let cost = BoundaryCost::Microunits(decision.estimated_cost_microunits);
+    Requirement {
+        lever: PRICE_SCALE_PPM,
+        current: PPM,
+        boundary: scale,
+        cost_at_boundary_microunits: cost,
+    }
+}
+
+// No lever, after so many passes.
+pub fn no_levers(passes: u64) -> Levers
+    ensures { λ r. ⌜ toldLevers r ≡ emptyRoom passes ⌝ }
+{
+    let nothing = plain(0, 0, 0);
+    Levers {
+        levers: [nothing; 4],
+        count: 0,
+        passes,
+    }
+}
+
+// One lever more.
+pub fn push(levers: Levers, requirement: Requirement) -> Levers
+    ensures { λ r. ⌜ toldLevers r ≡ pushed (toldLevers levers) (toldEntry requirement) ⌝ }
+{
+    let at = levers.count;
+    let mut next = levers;
+    if at < 4 {
+        next.levers[at] = requirement;
+        next.count = at + 1;
+        next
+    } else {
+        next
+    }
+}
+
+// So many passes more.
+fn pass(levers: Levers, n: u64) -> Levers
+    requires { ⌜ levers .passes + n < 2 ^ 64 ⌝ }
+    ensures { λ r. ⌜ toldLevers r ≡ passed (toldLevers levers) n ⌝ }
+{
+    let mut next = levers;
+    next.passes = next.passes + n;
+    next
+}
+
+// With what the search of a lever found.
+pub fn note(levers: Levers, lever: u8, current: u64, found: Bound) -> Levers
+    requires { ⌜ levers .passes + passesIn found < 2 ^ 64 ⌝ }
+    ensures { λ r. ⌜ toldLevers r ≡ joined (toldLevers levers) (rule.plain lever current found) ⌝ }
+{
+    match found {
+        Bound::At(boundary, n) => pass(push(levers, plain(lever, current, boundary)), n),
+        Bound::Nothing(n) => pass(levers, n),
+    }
+}
+
+// With what the search of the price found.
+pub fn note_price(levers: Levers, asked: Asked, bank: &[u8], found: Bound) -> Levers
+    requires { ⌜ (Stands asked (now bank)) × (levers .passes + passesIn found + 1 < 2 ^ 64) ⌝ }
+    ensures { λ r. ⌜ toldLevers r ≡ joined (toldLevers levers) (rule.priced (questionOf asked (now (bank .entry))) found) ⌝ }
+{
+    match found {
+        Bound::At(scale, n) => pass(push(levers, priced(asked, bank, scale)), n + 1),
+        Bound::Nothing(n) => pass(levers, n),
+    }
+}

@@ -1,0 +1,114 @@
+// What would win: for a model that wasn't selected, the smallest change of one lever after which it is.
+ghost use mathlib.Core.Path.{_≡_};
+ghost use Rattle.rules.specs.Records.{listedOf};
+ghost use Rattle.rules.specs.Numbers.{toldBoundaries};
+ghost use Rattle.rules.specs.Decide.{decisionOf};
+ghost use Rattle.rules.specs.Win.{winLevers, winSearch, winFor, whatWouldWinOf};
+ghost use Rattle.searches.specs.Asked.{questionOf, Stands};
+ghost use Rattle.counterfactual.specs.Levers.{toldLevers, roomOf};
+use crate::answer::answered;
+use crate::answer::refused;
+use crate::levers::no_levers;
+use crate::levers::note;
+use crate::levers::note_price;
+use crate::levers::plain;
+use crate::levers::push;
+use kernel::decide::decide;
+use kernel::listing::first_listed;
+use kernel::refuse::bank_outcome;
+use kernel::stop::Stop;
+use kernel::stop::stopped_by;
+use rules::Boundaries;
+use rules::Found;
+use rules::KernelInput;
+use rules::Levers;
+use rules::Outcome;
+use rules::PolicySnapshot;
+use rules::Refusal;
+use rules::limits::MAX_BPS;
+use rules::limits::PPM;
+use searches::lever::ENABLED;
+use searches::lever::P95_LATENCY_MS;
+use searches::lever::PRICE_SCALE_PPM;
+use searches::lever::QUALITY_BPS;
+use searches::lever::RISK_CEILING_BPS;
+use searches::pass::Asked;
+use searches::pass::asked_at;
+use searches::pass::selected;
+use searches::pass::wins_at;
+use searches::search::highest_true;
+use searches::search::lowest_true;
+
+// Four levers, each searched from today's value to its favourable end, in their order; the opening decision is one pass.
+fn win_levers(asked: Asked, bank: &[u8]) -> Levers
+    requires { ⌜ Stands asked (now bank) ⌝ }
+    ensures { λ r. ⌜ toldLevers r ≡ roomOf (winLevers (questionOf asked (now (bank .entry)))) ⌝ }
+{
+    let model = asked.model;
+    let most = MAX_BPS as u64;
+    let quality = model.quality_bps as u64;
+    let latency = model.p95_latency_ms as u64;
+    let ceiling = model.risk_ceiling_bps as u64;
+    let empty = no_levers(1);
+    let by_quality = lowest_true(asked, bank, QUALITY_BPS, quality, most);
+    let one = note(empty, QUALITY_BPS, quality, by_quality);
+    let by_latency = highest_true(asked, bank, P95_LATENCY_MS, 0, latency);
+    let two = note(one, P95_LATENCY_MS, latency, by_latency);
+    let by_price = highest_true(asked, bank, PRICE_SCALE_PPM, 0, PPM);
+    let three = note_price(two, asked, bank, by_price);
+    let by_ceiling = lowest_true(asked, bank, RISK_CEILING_BPS, ceiling, most);
+    note(three, RISK_CEILING_BPS, ceiling, by_ceiling)
+}
+
+// A model that is off is only switched on, at the second pass: no other lever makes it win.
+fn win_search(asked: Asked, bank: &[u8]) -> Levers
+    requires { ⌜ Stands asked (now bank) ⌝ }
+    ensures { λ r. ⌜ toldLevers r ≡ roomOf (winSearch (questionOf asked (now (bank .entry)))) ⌝ }
+{
+    let model = asked.model;
+    if model.enabled != 0 {
+        return win_levers(asked, bank);
+    }
+    if wins_at(asked, bank, ENABLED, 1) {
+        return push(no_levers(2), plain(ENABLED, 0, 1));
+    }
+    no_levers(2)
+}
+
+// The answer for a listed id. Nothing is sought where the request is stopped or the id is selected already.
+fn win_for(asked: Asked, bank: &[u8]) -> Boundaries
+    requires { ⌜ Stands asked (now bank) ⌝ }
+    ensures { λ r. ⌜ toldBoundaries r ≡ winFor (questionOf asked (now (bank .entry))) (decisionOf (asked .policy) (asked .input) (listedOf (now (bank .entry)))) ⌝ }
+{
+    let policy = asked.policy;
+    let input = asked.input;
+    let decision = decide(policy, bank, input);
+    let stop = stopped_by(policy, input);
+    if let Stop::By(_) = stop {
+        return answered(asked.id, decision, true, no_levers(1));
+    }
+    if selected(decision, asked.id) {
+        return answered(asked.id, decision, false, no_levers(1));
+    }
+    answered(asked.id, decision, false, win_search(asked, bank))
+}
+
+// `what_would_win`: the levers that would make a model selected, each alone. Refused: 1, 2, then 5 where the id isn't listed.
+pub fn what_would_win(
+    policy: PolicySnapshot,
+    bank: &[u8],
+    input: KernelInput,
+    id: u32,
+) -> Boundaries
+    ensures { λ r. ⌜ toldBoundaries r ≡ whatWouldWinOf policy input (now (bank .entry)) id ⌝ }
+{
+    let outcome = bank_outcome(bank.len());
+    if let Outcome::Refused(refusal) = outcome {
+        return refused(refusal);
+    }
+    let found = first_listed(bank, id);
+    let Found::At(at) = found else {
+        return refused(Refusal::UnknownModel);
+    };
+    win_for(asked_at(policy, bank, input, id, at as usize), bank)
+}

@@ -1,0 +1,186 @@
+-- Demand 3 at document 01's example: the theorems' hypotheses are met, and what they say of rows (B) and (C). Assumes nothing.
+use Prim.Native.Nat.{ℕ, _≤_}
+use mathlib.Core.Path.{_≡_, refl, sym, ap, subst, _∙_}
+use mathlib.Core.Bool.{true, false}
+use mathlib.Core.List.{List, [], _∷_}
+use mathlib.Core.Logic.{_↔_}
+use mathlib.Core.Option.{some, none, Option·some-injective}
+use native.Mathlib.Omega.{arith}
+use Rattle.rules.specs.Choice.{below, atLeast, equal, lower, higher}
+use Rattle.rules.specs.Bytes.{number}
+use Rattle.rules.specs.Records.{Listed, listed, modelOf, modelAt, inputOf, policyOf, listedOf}
+use Rattle.rules.specs.Numbers.{lengthFaults, bankFaults, isRejection, Boundary}
+use Rattle.rules.specs.Gates.{gateOf}
+use Rattle.rules.specs.Price.{billed, costOf, scaledPrice}
+use Rattle.rules.specs.Utility.{shareOf, qualityTermOf, riskTermOf, latencyTermOf, exactUtilityOf, utilityOf}
+use Rattle.rules.specs.Verdict.{pricedOf, verdictOf}
+use Rattle.rules.specs.Rank.{better, ranking}
+use Rattle.rules.specs.Decide.{stoppedBy, executedAs, chosen, decidedOf, decisionOf}
+use Rattle.rules.specs.Listing.{firstListed}
+use Rattle.rules.specs.Halving.{halveIn, searchOf, searchAfterFarEnd}
+use Rattle.rules.specs.Levers.{Question, leverAt, selects, varied, decisionAt, wins, boundaryOf}
+use Rattle.rules.specs.Win.{winLevers, winSearch, winFor, winIn, whatWouldWinOf}
+use Rattle.rules.specs.Margin.{marginLevers, marginFor, marginIn, decisionMarginOf}
+use Rattle.rules.specs.declared.records.KernelInput.{KernelInput}
+use Rattle.rules.specs.declared.records.PolicySnapshot.{PolicySnapshot}
+use Rattle.rules.proofs.Example.{bank, policy, request, lever, noLever, boundary}
+use Rattle.rules.proofs.Table.{choice}
+use Rattle.demands.specs.Standing.{UniqueIds}
+use Rattle.demands.specs.Demand3.{question, qualityEntry, latencyEntry, priceEntry, ceilingEntry, ofLever, entriesOf, Unselected, SwitchedOn, winPasses, marginPasses, WinExact, MarginExact}
+use Rattle.demands.proofs.Winning.{answered-win, what-would-win-exact}
+use Rattle.demands.proofs.Margins.{decision-margin-exact}
+use Rattle.demands.proofs.Passes.{win-passes, keep-passes}
+
+abbrev p : PolicySnapshot
+p = policyOf policy
+
+abbrev q : KernelInput
+q = inputOf request
+
+abbrev ls : List Listed
+ls = listedOf bank
+
+-- ---- the hypotheses
+
+no-fault : bankFaults bank ≡ []
+unfolding lengthFaults equal below
+no-fault = refl
+
+unique : UniqueIds ls
+unfolding listedOf modelOf number
+unique = (((λ e. omega arith), tt), (tt, tt))
+
+goes-on : stoppedBy p q ≡ 0
+unfolding stoppedBy atLeast below number inputOf policyOf
+goes-on = refl
+
+first-is-one : firstListed 1 ls ≡ some (listed 0 (modelAt bank 0))
+unfolding firstListed equal listedOf modelOf number
+first-is-one = refl
+
+is-on : SwitchedOn (modelAt bank 0)
+unfolding modelOf number
+is-on e = omega arith
+
+decides-two : decisionOf p q ls ≡ choice
+unfolding below atLeast equal lower higher number modelOf inputOf policyOf listedOf gateOf billed costOf shareOf qualityTermOf riskTermOf latencyTermOf exactUtilityOf utilityOf pricedOf verdictOf better ranking stoppedBy executedAs chosen decidedOf decisionOf
+decides-two = refl
+
+one-unselected : Unselected p q ls 1 (listed 0 (modelAt bank 0))
+unfolding selects
+one-unselected = record { listed = first-is-one; goesOn = goes-on; notSelected = rw decides-two }
+
+-- ---- (B) what would win for model 1
+
+abbrev one : Question
+one = question p q ls 1 (modelAt bank 0)
+
+exact-B : WinExact (whatWouldWinOf p q bank 1) one
+exact-B = what-would-win-exact p q bank 1 (listed 0 (modelAt bank 0)) no-fault unique one-unselected is-on
+
+row-B : whatWouldWinOf p q bank 1 ≡ boundary 1 choice false (lever 3 1000000 443333 (some 798) ∷ noLever ∷ noLever ∷ noLever ∷ []) 1 26
+unfolding below atLeast equal lower higher number modelOf inputOf policyOf listedOf lengthFaults gateOf billed costOf scaledPrice shareOf qualityTermOf riskTermOf latencyTermOf exactUtilityOf utilityOf pricedOf verdictOf better ranking stoppedBy executedAs chosen decidedOf decisionOf firstListed halveIn searchOf leverAt selects varied decisionAt wins boundaryOf winLevers winSearch winFor winIn whatWouldWinOf
+row-B = refl
+
+-- the cost that the price's entry carries is the decision's there
+cost-there : decisionAt one 3 443333 .cost ≡ 798
+unfolding below atLeast equal lower higher number modelOf inputOf policyOf listedOf gateOf billed costOf scaledPrice shareOf qualityTermOf riskTermOf latencyTermOf exactUtilityOf utilityOf pricedOf verdictOf better ranking stoppedBy executedAs chosen decidedOf decisionOf leverAt varied decisionAt
+cost-there = refl
+
+price-given : entriesOf 3 (whatWouldWinOf p q bank 1) ≡ priceEntry one 443333 ∷ []
+unfolding ofLever equal
+price-given = rw cost-there (ap (entriesOf 3) row-B)
+
+-- Of all price scales to 1,000,000, model 1 is selected at those to 443,333 and at no other
+one-by-price : (v : ℕ) → v ≤ 1000000 → (wins one 3 v ≡ true) ↔ (v ≤ 443333)
+one-by-price v h = exact-B .price .exact 443333 price-given .exactly v ((omega arith), h)
+
+-- and at no quality from 9,000 to 10,000: equal utility at higher cost loses
+one-not-by-quality : (v : ℕ) → 9000 ≤ v → v ≤ 10000 → wins one 1 v ≡ false
+unfolding ofLever equal modelOf number
+one-not-by-quality v h k = exact-B .quality .missing .0 (ap (entriesOf 1) row-B) v (h, k)
+
+-- at no latency to 100 ms, and at no ceiling from 8,000 to 10,000
+one-not-by-latency : (v : ℕ) → v ≤ 100 → wins one 2 v ≡ false
+unfolding ofLever equal modelOf number
+one-not-by-latency v h = exact-B .latency .missing .0 (ap (entriesOf 2) row-B) v ((omega arith), h)
+
+one-not-by-ceiling : (v : ℕ) → 8000 ≤ v → v ≤ 10000 → wins one 4 v ≡ false
+unfolding ofLever equal modelOf number
+one-not-by-ceiling v h k = exact-B .ceiling .missing .0 (ap (entriesOf 4) row-B) v (h, k)
+
+-- the 26 passes are the halvings' own
+passes-B : winPasses one ≡ 26
+passes-B =
+    sym (win-passes p q ls 1 (listed 0 (modelAt bank 0)) one-unselected is-on)
+    ∙ ap (λ (b : Boundary). b .passes) (sym (answered-win p q bank 1 no-fault) ∙ row-B)
+
+-- ---- (C) the margin of model 2
+
+executed : isRejection (decisionOf p q ls) ≡ false
+executed = rw decides-two
+
+first-is-two : firstListed 2 ls ≡ some (listed 1 (modelAt bank 1))
+unfolding firstListed equal listedOf modelOf number
+first-is-two = refl
+
+abbrev two : Question
+two = question p q ls 2 (modelAt bank 1)
+
+row-C : decisionMarginOf p q bank ≡ boundary 2 choice false (lever 1 8000 7000 none ∷ lever 2 50 150 none ∷ lever 3 1000000 4330000 (some 1299) ∷ lever 4 8000 1000 none ∷ []) 4 95
+unfolding below atLeast equal lower higher number modelOf inputOf policyOf listedOf lengthFaults gateOf billed costOf scaledPrice shareOf qualityTermOf riskTermOf latencyTermOf exactUtilityOf utilityOf pricedOf verdictOf better ranking stoppedBy executedAs chosen decidedOf decisionOf firstListed halveIn searchOf searchAfterFarEnd leverAt selects varied decisionAt wins boundaryOf marginLevers marginFor marginIn decisionMarginOf
+row-C = refl
+
+-- the record that is varied is the one at place 1
+chosen-is-two : decisionOf p q ls .model ≡ 2
+chosen-is-two = rw decides-two
+
+exact-C : MarginExact (decisionMarginOf p q bank) two
+exact-C =
+    let c = decision-margin-exact p q bank no-fault unique executed in
+    let same = Option·some-injective (c .varied) (listed 1 (modelAt bank 1)) (sym (c .first) ∙ ap (λ id. firstListed id ls) chosen-is-two ∙ first-is-two) in
+    subst (λ id. MarginExact (decisionMarginOf p q bank) (question p q ls id (modelAt bank 1))) chosen-is-two
+    (subst (λ l. MarginExact (decisionMarginOf p q bank) (question p q ls (decisionOf p q ls .model) (l .model))) same (c .exact))
+
+quality-given : entriesOf 1 (decisionMarginOf p q bank) ≡ qualityEntry two 7000 ∷ []
+unfolding ofLever equal modelOf number
+quality-given = ap (entriesOf 1) row-C
+
+latency-given : entriesOf 2 (decisionMarginOf p q bank) ≡ latencyEntry two 150 ∷ []
+unfolding ofLever equal modelOf number
+latency-given = ap (entriesOf 2) row-C
+
+ceiling-given : entriesOf 4 (decisionMarginOf p q bank) ≡ ceilingEntry two 1000 ∷ []
+unfolding ofLever equal modelOf number
+ceiling-given = ap (entriesOf 4) row-C
+
+scaled-cost : decisionAt two 3 4330000 .cost ≡ 1299
+unfolding below atLeast equal lower higher number modelOf inputOf policyOf listedOf gateOf billed costOf scaledPrice shareOf qualityTermOf riskTermOf latencyTermOf exactUtilityOf utilityOf pricedOf verdictOf better ranking stoppedBy executedAs chosen decidedOf decisionOf leverAt varied decisionAt
+scaled-cost = refl
+
+scale-given : entriesOf 3 (decisionMarginOf p q bank) ≡ priceEntry two 4330000 ∷ []
+unfolding ofLever equal
+scale-given = rw scaled-cost (ap (entriesOf 3) row-C)
+
+-- Model 2 stays chosen at the qualities from 7,000 to 8,000 and at no lower one
+two-by-quality : (v : ℕ) → v ≤ 8000 → (wins two 1 v ≡ true) ↔ (7000 ≤ v)
+unfolding modelOf number
+two-by-quality v h = exact-C .quality .exact 7000 quality-given .exactly v ((omega arith), h)
+
+-- at the latencies from 50 to 150 ms and at no higher one
+two-by-latency : (v : ℕ) → 50 ≤ v → v ≤ 4294967295 → (wins two 2 v ≡ true) ↔ (v ≤ 150)
+unfolding modelOf number
+two-by-latency v h k = exact-C .latency .exact 150 latency-given .exactly v (h, k)
+
+-- at the price scales from 1,000,000 to 4,330,000 and at no higher one
+two-by-price : (v : ℕ) → 1000000 ≤ v → v ≤ 1000000000 → (wins two 3 v ≡ true) ↔ (v ≤ 4330000)
+two-by-price v h k = exact-C .price .exact 4330000 scale-given .exactly v (h, k)
+
+-- and at the ceilings from 1,000 to 8,000 and at no lower one
+two-by-ceiling : (v : ℕ) → v ≤ 8000 → (wins two 4 v ≡ true) ↔ (1000 ≤ v)
+unfolding modelOf number
+two-by-ceiling v h = exact-C .ceiling .exact 1000 ceiling-given .exactly v ((omega arith), h)
+
+-- and the margin's passes are its halvings' own
+passes-C : marginIn p q ls .passes ≡ marginPasses (question p q ls (decisionOf p q ls .model) (modelAt bank 1))
+passes-C = keep-passes p q ls (listed 1 (modelAt bank 1)) executed (rw chosen-is-two first-is-two)

@@ -1,0 +1,98 @@
+-- When a model is eligible: no gate stops it, it is within the budget, and its utility is positive. A model that is nowhere less favourable
+-- stays so. Assumes nothing.
+use Prim.Native.Nat.{ℕ, suc, _≤_}
+use mathlib.Core.Path.{_≡_, refl}
+use mathlib.Core.Bool.{Bool, true, false, cond, _&&_}
+use mathlib.Core.List.{List, [], _∷_}
+use native.Mathlib.Omega.{arith}
+use borrow.Author.Tests.{le-ltb, ltb-false}
+use lib.Dec.{ltb}
+use lib.IntN.{pos}
+use lib.Signed.{leZ}
+use Rattle.rules.specs.Choice.{below}
+use Rattle.rules.specs.Gates.{firstOf, isOff, isPoor, isSlow, isUnable, isUnknown, isBarred, isElsewhere, isRisky, gateOf, detailOf}
+use Rattle.rules.specs.Price.{costOf}
+use Rattle.rules.specs.Utility.{utilityOf}
+use Rattle.rules.specs.Verdict.{rejected, overBudget, withTerms, pricedOf, verdictOf}
+use Rattle.rules.specs.declared.records.KernelModel.{KernelModel}
+use Rattle.rules.specs.declared.records.KernelInput.{KernelInput}
+use Rattle.rules.specs.declared.records.PolicySnapshot.{PolicySnapshot}
+use Rattle.demands.specs.Lists.{Each}
+use Rattle.demands.specs.Standing.{Eligible, Favours}
+use Rattle.demands.proofs.Integers.{positive-up}
+use Rattle.demands.proofs.Terms.{cost-falls, utility-rises}
+
+-- ---- the three conditions
+
+pub record Passes (p : PolicySnapshot) (q : KernelInput) (m : KernelModel) : Type 0 where
+  pub gate : gateOf m q ≡ 0
+  pub budget : costOf m q ≤ q .«budget_limit_microunits»
+  pub utility : leZ (utilityOf p m q) (pos 0) ≡ false
+
+module _ (p : PolicySnapshot) (q : KernelInput) (m : KernelModel) where
+  pub passes : Eligible p q m → Passes p q m
+  unfolding verdictOf pricedOf below
+  passes e = go (ltb 0 (gateOf m q)) (ltb (q .«budget_limit_microunits») (costOf m q)) (leZ (utilityOf p m q) (pos 0)) refl refl refl e
+    where
+      go : (s t u : Bool) → ltb 0 (gateOf m q) ≡ s → ltb (q .«budget_limit_microunits») (costOf m q) ≡ t → leZ (utilityOf p m q) (pos 0) ≡ u → cond s (rejected (gateOf m q) (detailOf m q (gateOf m q))) (cond t (overBudget (costOf m q) (q .«budget_limit_microunits»)) (withTerms p q m (cond u 3 4))) .verdict ≡ 4 → Passes p q m
+      go true t u a b c e = absurd (omega arith)
+      go false true u a b c e = absurd (omega arith)
+      go false false true a b c e = absurd (omega arith)
+      go false false false a b c e =
+          record {
+            gate = omega (arith, ltb-false 0 (gateOf m q) a);
+            budget = ltb-false (q .«budget_limit_microunits») (costOf m q) b;
+            utility = c;
+          }
+
+  -- and then the verdict is 4, with the model's own terms
+  pub told-terms : Passes p q m → verdictOf p q m ≡ withTerms p q m 4
+  unfolding verdictOf pricedOf below
+  told-terms h = rw (h .gate, le-ltb (q .«budget_limit_microunits») (costOf m q) (h .budget), h .utility)
+
+-- ---- the gates
+
+first-none : (n : ℕ) (bs : List Bool) → firstOf (suc n) bs ≡ 0 → Each (λ b. b ≡ false) bs
+first-none n [] e = tt
+first-none n (true ∷ bs) e = absurd (omega arith)
+first-none n (false ∷ bs) e = (refl, first-none (suc n) bs e)
+
+none-first : (n : ℕ) (bs : List Bool) → Each (λ b. b ≡ false) bs → firstOf n bs ≡ 0
+none-first n [] h = refl
+none-first n (b ∷ bs) h = rw (h .0) (none-first (suc n) bs (h .1))
+
+-- a test that fails wherever another does, behind the same test
+and-not : (a b c : Bool) → (b ≡ false → c ≡ false) → (a && b) ≡ false → (a && c) ≡ false
+and-not true b c f e = f e
+and-not false b c f e = refl
+
+-- a number that is not below another
+not-below : (a b c d : ℕ) → a ≤ c → d ≤ b → ltb a b ≡ false → ltb c d ≡ false
+not-below a b c d h k e = le-ltb c d (omega (arith, ltb-false a b e))
+
+-- the eight tests
+abbrev tests : KernelModel → KernelInput → List Bool
+tests m q =
+    isOff m q ∷ isPoor m q ∷ isSlow m q ∷ isUnable m q ∷ isUnknown m q ∷ isBarred m q ∷ isElsewhere m q ∷ isRisky m q ∷ []
+
+module _ (p : PolicySnapshot) (q : KernelInput) (y x : KernelModel) (f : Favours y x) where
+  -- No gate stops a model that is nowhere less favourable than one that none stops
+  gates-pass : gateOf x q ≡ 0 → gateOf y q ≡ 0
+  unfolding gateOf
+  gates-pass e =
+      let (off, (poor, (slow, (unable, (unknown, (barred, (elsewhere, (risky, _)))))))) = first-none 0 (tests x q) e in
+      let quality = not-below (x .«quality_bps») (q .«minimum_quality_bps») (y .«quality_bps») (q .«minimum_quality_bps») (f .quality) (omega arith) poor in
+      let ceiling = not-below (x .«risk_ceiling_bps») (q .«risk_bps») (y .«risk_ceiling_bps») (q .«risk_bps») (f .ceiling) (omega arith) risky in
+      let longest = q .«max_p95_latency_ms» in
+      let latency = and-not (ltb 0 longest) _ _ (not-below longest (x .«p95_latency_ms») longest (y .«p95_latency_ms») (omega arith) (f .latency)) slow in
+      none-first 1 (tests y q)
+      (rw (f .enabled) off, (quality, (latency, (rw (f .capabilities) unable, (rw (f .provider) unknown, (rw (f .provider) barred, (rw (f .regions) elsewhere, (ceiling, tt))))))))
+
+  -- So it is eligible where the other is
+  pub stays-eligible : Passes p q x → Passes p q y
+  stays-eligible h =
+      record {
+        gate = gates-pass (h .gate);
+        budget = omega (arith, h .budget, cost-falls p q y x f);
+        utility = positive-up (utilityOf p x q) (utilityOf p y q) (utility-rises p q y x f) (h .utility);
+      }

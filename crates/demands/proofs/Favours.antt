@@ -1,0 +1,74 @@
+-- A model that is nowhere less favourable does as well as the other; and each lever's settings are ordered so. Assumes nothing.
+use mathlib.Core.Path.{refl, ap}
+use native.Mathlib.Nat.{le-refl, le-of-eq}
+use Rattle.rules.specs.Limits.{ppm}
+use Rattle.rules.specs.Choice.{equal}
+use Rattle.rules.specs.Numbers.{Verdict}
+use Rattle.rules.specs.Rank.{better}
+use Rattle.rules.specs.Halving.{Lowest, Highest}
+use Rattle.rules.specs.Levers.{leverAt}
+use Rattle.rules.specs.declared.records.KernelModel.{KernelModel}
+use Rattle.rules.specs.declared.records.KernelInput.{KernelInput}
+use Rattle.rules.specs.declared.records.PolicySnapshot.{PolicySnapshot}
+use Rattle.demands.specs.Standing.{AsGood, Favours, Ordered}
+use Rattle.demands.proofs.Integers.{higher-not, lower-not}
+use Rattle.demands.proofs.Terms.{scaled-rises, scaled-at-one, cost-falls, utility-rises}
+use Rattle.demands.proofs.Eligible.{passes, told-terms, stays-eligible}
+
+-- Demand 3. A model that is nowhere less favourable does as well: it is eligible where the other is, and the other does not rank before it
+pub as-good : (p : PolicySnapshot) (q : KernelInput) (y x : KernelModel) → Favours y x → AsGood p q y x
+unfolding better
+as-good p q y x f =
+    record {
+      id = f .id;
+      eligible = λ e. ap (λ (v : Verdict). v .verdict) (told-terms p q y (stays-eligible p q y x f (passes p q x e)));
+      notAfter = λ e place.
+          let h = passes p q x e in
+          rw (told-terms p q x h, told-terms p q y (stays-eligible p q y x f h))
+          (higher-not _ _ _ (utility-rises p q y x f)
+          (lower-not _ _ _ (cost-falls p q y x f)
+          (lower-not _ _ _ (f .quality)
+          (lower-not _ _ _ (le-of-eq (f .id))
+          (lower-not place place _ (le-refl place) refl)))));
+    }
+
+-- ---- the levers
+
+-- Demand 3. Quality: higher is better
+pub quality-ordered : Ordered 1 Lowest
+unfolding leverAt equal
+quality-ordered m u v h = search le-refl
+
+-- Demand 3. Latency: lower is better
+pub latency-ordered : Ordered 2 Highest
+unfolding leverAt equal
+latency-ordered m u v h = search le-refl
+
+-- Demand 3. Price scale: lower is better, and moves both prices
+pub price-ordered : Ordered 3 Highest
+unfolding leverAt equal
+price-ordered m u v h = search (le-refl, scaled-rises)
+
+-- Demand 3. Ceiling: higher is better
+pub ceiling-ordered : Ordered 4 Lowest
+unfolding leverAt equal
+ceiling-ordered m u v h = search le-refl
+
+-- ---- today's setting
+
+-- A lever at its setting of today is nowhere less favourable
+pub quality-today : (m : KernelModel) → Favours (leverAt 1 (m .«quality_bps») m) m
+unfolding leverAt equal
+quality-today m = search le-refl
+
+pub latency-today : (m : KernelModel) → Favours (leverAt 2 (m .«p95_latency_ms») m) m
+unfolding leverAt equal
+latency-today m = search le-refl
+
+pub price-today : (m : KernelModel) → Favours (leverAt 3 ppm m) m
+unfolding leverAt equal
+price-today m = search (le-refl, scaled-at-one)
+
+pub ceiling-today : (m : KernelModel) → Favours (leverAt 4 (m .«risk_ceiling_bps») m) m
+unfolding leverAt equal
+ceiling-today m = search le-refl

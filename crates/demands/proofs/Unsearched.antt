@@ -1,0 +1,89 @@
+-- DEMAND 3 where no lever is searched: a model that is off, a request that is stopped, an id that is selected; and rejections, which select
+-- no id at any setting. Assumes nothing: ids may repeat.
+use Prim.Native.Nat.{ℕ, _+_, _<_}
+use mathlib.Core.Path.{_≡_, refl, sym, ap, subst, _∙_}
+use mathlib.Core.Bool.{Bool, true, false, false≢true}
+use mathlib.Core.List.{List, []}
+use mathlib.Core.Option.{some}
+use native.Mathlib.Omega.{arith}
+use borrow.Author.Tests.{eq-eqb, ne-eqb}
+use lib.ListN.{length}
+use Rattle.rules.specs.Records.{Listed, listedOf}
+use Rattle.rules.specs.Numbers.{bankFaults, isRejection, Boundary}
+use Rattle.rules.specs.Decide.{stoppedBy, decisionOf}
+use Rattle.rules.specs.Listing.{firstListed}
+use Rattle.rules.specs.Levers.{Question, selects, decisionAt, wins, boundaryOf}
+use Rattle.rules.specs.Win.{ifOn, winSearch, winFor, winIn, whatWouldWinOf}
+use Rattle.rules.specs.declared.records.KernelInput.{KernelInput}
+use Rattle.rules.specs.declared.records.PolicySnapshot.{PolicySnapshot}
+use Rattle.demands.specs.Demand3.{question, used, Unselected, OffExact}
+use Rattle.demands.proofs.Selected.{rejection-selects-none, selects-chose, stopped-rejects, selected-chosen}
+use Rattle.demands.proofs.Winning.{answered-win, searched, used-searched, no-refusal}
+
+-- ---- rejections
+
+-- Demand 3. A rejection selects no id, 0 included, at any setting of any lever
+pub rejected-at-setting : (a : Question) (lever v : ℕ) → isRejection (decisionAt a lever v) ≡ true → wins a lever v ≡ false
+unfolding wins
+rejected-at-setting a lever v e = rejection-selects-none (a .id) (decisionAt a lever v) e
+
+-- Demand 3. A setting that selects the id decides for it, and is no rejection
+pub selected-at-setting : (a : Question) (lever v : ℕ) → wins a lever v ≡ true → (isRejection (decisionAt a lever v) ≡ false) × (decisionAt a lever v .model ≡ a .id)
+unfolding wins
+selected-at-setting a lever v e = selects-chose (a .id) (decisionAt a lever v) e
+
+-- Demand 3. Where a limit stops the request, no setting selects any id
+pub stopped-at-setting : (a : Question) (lever v : ℕ) → 0 < stoppedBy (a .policy) (a .request) → wins a lever v ≡ false
+unfolding decisionAt
+stopped-at-setting a lever v h = rejected-at-setting a lever v (stopped-rejects (a .policy) (a .request) _ h)
+
+-- ---- what would win, over any list
+
+module _ (p : PolicySnapshot) (q : KernelInput) (ls : List Listed) (id : ℕ) (l : Listed) (first : firstListed id ls ≡ some l) where
+  -- Demand 3. Stopped by a request limit: no entry, one pass
+  pub stopped-empty : 0 < stoppedBy p q → (used (winIn p q ls id) ≡ []) × (winIn p q ls id .passes ≡ 1)
+  unfolding winIn winFor boundaryOf
+  stopped-empty h = rw (first, ne-eqb (stoppedBy p q) 0 (λ e. omega arith)) (refl, refl)
+
+  -- Demand 3. Selected already: no entry, one pass
+  pub selected-empty : selects id (decisionOf p q ls) ≡ true → (used (winIn p q ls id) ≡ []) × (winIn p q ls id .passes ≡ 1)
+  unfolding winIn winFor boundaryOf
+  selected-empty e = let z = selected-chosen p q ls id e .0 in rw (first, z, e) (refl, refl)
+
+module _ (p : PolicySnapshot) (q : KernelInput) (ls : List Listed) (id : ℕ) (l : Listed) (u : Unselected p q ls id l) (off : l .model .enabled ≡ 0) where
+  off-used : used (winIn p q ls id) ≡ ifOn (wins (question p q ls id (l .model)) 5 1) .entries
+  unfolding winSearch
+  off-used = used-searched p q ls id l u ∙ rw off
+
+  -- Demand 3. SWITCHED OFF: enabled is listed exactly if switching it on selects the id
+  pub off-exact : OffExact (winIn p q ls id) (question p q ls id (l .model))
+  off-exact = go (wins (question p q ls id (l .model)) 5 1) refl off-used
+    where
+      go : (t : Bool) → wins (question p q ls id (l .model)) 5 1 ≡ t → used (winIn p q ls id) ≡ ifOn t .entries → OffExact (winIn p q ls id) (question p q ls id (l .model))
+      go true w k =
+          record {
+            answered = no-refusal p q ls id l u;
+            given = (λ s. w, λ s. k);
+            missing = (λ s. absurd (omega (arith, ap length (sym k ∙ s))), λ s. absurd (false≢true (sym s ∙ w)));
+          }
+      go false w k =
+          record {
+            answered = no-refusal p q ls id l u;
+            given = (λ s. absurd (omega (arith, ap length (sym k ∙ s))), λ s. absurd (false≢true (sym w ∙ s)));
+            missing = (λ s. w, λ s. k);
+          }
+
+  -- Demand 3. Two passes: the opening decision, and the one with the model switched on
+  pub off-passes : winIn p q ls id .passes ≡ 2
+  unfolding boundaryOf winSearch
+  off-passes = ap (λ (b : Boundary). b .passes) (searched p q ls id l u) ∙ rw (eq-eqb (l .model .enabled) 0 off) (two (wins (question p q ls id (l .model)) 5 1))
+    where
+      two : (t : Bool) → 1 + ifOn t .passes ≡ 2
+      two true = refl
+      two false = refl
+
+-- Demand 3. SWITCHED OFF, of a bank
+pub switched-off-exact : (p : PolicySnapshot) (q : KernelInput) (bank : List ℕ) (id : ℕ) (l : Listed) → bankFaults bank ≡ [] → Unselected p q (listedOf bank) id l → l .model .enabled ≡ 0 → OffExact (whatWouldWinOf p q bank id) (question p q (listedOf bank) id (l .model))
+switched-off-exact p q bank id l whole u off =
+    subst (λ answer. OffExact answer (question p q (listedOf bank) id (l .model))) (sym (answered-win p q bank id whole))
+    (off-exact p q (listedOf bank) id l u off)

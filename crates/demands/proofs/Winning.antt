@@ -1,0 +1,65 @@
+-- DEMAND 3, first half: what `what_would_win` answers is exact. Assumed: unique ids.
+use Prim.Native.Nat.{ℕ}
+use mathlib.Core.Path.{_≡_, refl, sym, ap, subst, _∙_}
+use mathlib.Core.Bool.{false}
+use mathlib.Core.List.{List, []}
+use borrow.Author.Tests.{ne-eqb}
+use Rattle.rules.specs.Limits.{maxBps, ppm}
+use Rattle.rules.specs.Records.{Listed, listedOf}
+use Rattle.rules.specs.Numbers.{noFault, bankFaults}
+use Rattle.rules.specs.Decide.{decisionOf}
+use Rattle.rules.specs.Halving.{Lowest, Highest, searchOf}
+use Rattle.rules.specs.Levers.{wins, boundaryOf}
+use Rattle.rules.specs.Win.{winLevers, winSearch, winFor, winIn, whatWouldWinOf}
+use Rattle.rules.specs.declared.records.KernelInput.{KernelInput}
+use Rattle.rules.specs.declared.records.PolicySnapshot.{PolicySnapshot}
+use Rattle.demands.specs.Standing.{UniqueIds}
+use Rattle.demands.specs.Demand3.{winQuality, winLatency, winPrice, winCeiling, question, used, Unselected, SwitchedOn, WinExact}
+use Rattle.demands.proofs.Favours.{quality-ordered, latency-ordered, price-ordered, ceiling-ordered}
+use Rattle.demands.proofs.Varied.{turns-once}
+use Rattle.demands.proofs.Entries.{used-sought, not-refused, Answers, answers, won}
+
+-- a bank without faults is answered over its records
+pub answered-win : (p : PolicySnapshot) (q : KernelInput) (bank : List ℕ) (id : ℕ) → bankFaults bank ≡ [] → whatWouldWinOf p q bank id ≡ winIn p q (listedOf bank) id
+unfolding whatWouldWinOf
+answered-win p q bank id e = rw e
+
+module _ (p : PolicySnapshot) (q : KernelInput) (ls : List Listed) (id : ℕ) (l : Listed) (u : Unselected p q ls id l) where
+  -- neither stopped nor selected: the search is made
+  pub searched : winIn p q ls id ≡ boundaryOf id (decisionOf p q ls) false (winSearch (question p q ls id (l .model)))
+  unfolding winIn winFor
+  searched = rw (u .listed, u .goesOn, u .notSelected)
+
+  pub used-searched : used (winIn p q ls id) ≡ winSearch (question p q ls id (l .model)) .entries
+  used-searched = ap used searched ∙ used-sought id (decisionOf p q ls) false (winSearch (question p q ls id (l .model)))
+
+  pub no-refusal : winIn p q ls id .refusal ≡ noFault
+  no-refusal = rw searched (not-refused id (decisionOf p q ls) false (winSearch (question p q ls id (l .model))))
+
+  -- switched on: four levers, and what they found
+  found-to-win : SwitchedOn (l .model) → let a = question p q ls id (l .model) in Answers (winIn p q ls id) a (searchOf Lowest (wins a 1) (l .model .«quality_bps») maxBps) (searchOf Highest (wins a 2) 0 (l .model .«p95_latency_ms»)) (searchOf Highest (wins a 3) 0 ppm) (searchOf Lowest (wins a 4) (l .model .«risk_ceiling_bps») maxBps)
+  unfolding winSearch winLevers
+  found-to-win h =
+      answers (winIn p q ls id) (question p q ls id (l .model)) _ _ _ _
+      (used-searched ∙ rw (ne-eqb (l .model .enabled) 0 h))
+
+  -- Demand 3, first half. WHAT WOULD WIN IS EXACT, over any list with unique ids
+  pub win-exact : UniqueIds ls → SwitchedOn (l .model) → WinExact (winIn p q ls id) (question p q ls id (l .model))
+  win-exact unique h =
+      let f = found-to-win h in
+      let turns = turns-once p q ls id l unique (u .listed) in
+      record {
+        answered = no-refusal;
+        quality = won (λ b. refl) (turns 1 Lowest quality-ordered (winQuality (l .model))) (f .quality);
+        latency = won (λ b. refl) (turns 2 Highest latency-ordered (winLatency (l .model))) (f .latency);
+        price = won (λ b. refl) (turns 3 Highest price-ordered winPrice) (f .price);
+        ceiling = won (λ b. refl) (turns 4 Lowest ceiling-ordered (winCeiling (l .model))) (f .ceiling);
+        whole = f .whole;
+      }
+
+-- Demand 3, first half. WHAT WOULD WIN IS EXACT, of a bank with unique ids: for a listed, switched-on model neither selected nor stopped by a
+-- request limit
+pub what-would-win-exact : (p : PolicySnapshot) (q : KernelInput) (bank : List ℕ) (id : ℕ) (l : Listed) → bankFaults bank ≡ [] → UniqueIds (listedOf bank) → Unselected p q (listedOf bank) id l → SwitchedOn (l .model) → WinExact (whatWouldWinOf p q bank id) (question p q (listedOf bank) id (l .model))
+what-would-win-exact p q bank id l whole unique u on =
+    subst (λ answer. WinExact answer (question p q (listedOf bank) id (l .model))) (sym (answered-win p q bank id whole))
+    (win-exact p q (listedOf bank) id l u unique on)

@@ -1,0 +1,51 @@
+-- `explain::put_explanation` meets its contract. Assumes nothing.
+use mathlib.Core.Path.{sym, ap, _∙_}
+use mathlib.Core.List.{List}
+use native.Mathlib.Omega.{arith}
+use Prim.Native.Nat.{ℕ}
+use denote.Ref.{now}
+use lib.ListN.{length}
+use borrow.Author.Needs.{needs}
+use Rattle.rules.specs.Bytes.{filled}
+use Rattle.rules.specs.Records.{listedOf}
+use Rattle.explain.proofs.Entries.{length-bank}
+use Rattle.explain.proofs.Stopped.{stopped-explanation, open-explanation}
+use Rattle.explain.proofs.list.put_explanation.Statement.{statement}
+use Rattle.explain.proofs.list.put_explanation.Tie as tie
+
+returns : tie.Need-returns
+unfolding filled
+returns c =
+    let s = c .before .before in
+    let a = s .before .before .before .args in
+    sym (ap (λ (new : List ℕ). filled new (now (a .list))) (stopped-explanation _ _ (s .stopped-by .ensures) _ (c .enum-told .given .1)))
+
+put-entries-requires : tie.Need-put-entries-requires
+put-entries-requires c κs =
+    let o = c .before in
+    let s = o .before .before in
+    let start = s .before .before .before in
+    let a = start .args in
+    let all = open-explanation _ _ (s .stopped-by .ensures) (listedOf (now (a .bank))) (o .enum-told2 .given .1) in
+    (start .pre .0, omega (arith, start .pre .1, ap length all ∙ length-bank (a .policy) (a .input) (now (a .bank))))
+
+returns-2 : tie.Need-returns-2
+returns-2 c =
+    let w = c .before .before in
+    let o = w .before .before in
+    let s = o .before .before in
+    let a = s .before .before .before .args in
+    w .put-entries .ensures
+    ∙ sym (ap (λ (new : List ℕ). filled new (now (a .list))) (open-explanation _ _ (s .stopped-by .ensures) _ (o .enum-told2 .given .1)))
+
+pub put-explanation-spec : {M : Type 1} → statement M
+put-explanation-spec =
+    tie.close
+    (tie.spec
+    (λ c κs. search needs)
+    (λ c. search needs)
+    returns
+    (λ c. search needs)
+    put-entries-requires
+    (λ c. search needs)
+    returns-2)

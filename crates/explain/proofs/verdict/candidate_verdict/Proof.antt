@@ -1,0 +1,49 @@
+-- `explain::candidate_verdict` meets its contract. Assumes nothing.
+use mathlib.Core.Path.{sym, ap, _∙_}
+use borrow.Author.Needs.{needs}
+use Rattle.rules.specs.Verdict.{rejected}
+use Rattle.rules.proofs.Choices.{below-yes, below-no}
+use Rattle.ranking.specs.Verdict.{pricedIn, verdictIn}
+use Rattle.explain.specs.Scanned.{scanned}
+use Rattle.explain.proofs.verdict.candidate_verdict.Statement.{statement}
+use Rattle.explain.proofs.verdict.candidate_verdict.Tie as tie
+
+returns : tie.Need-returns
+unfolding verdictIn scanned
+returns c =
+    let d = c .before in
+    let f = d .before .before in
+    c .rejected .ensures
+    ∙ rw (d .gate-detail .ensures, ← f .first-failed-gate .ensures) (sym (ap (scanned _ _) (below-yes _ _ _ _ (d .before .if1 .taken))))
+
+returns-2 : tie.Need-returns-2
+unfolding verdictIn scanned
+returns-2 c =
+    let d = c .before .before in
+    rw (← d .before .before .first-failed-gate .ensures, ← d .cost-exact .ensures)
+    (sym (ap (scanned _ _) (below-no _ _ _ _ (d .before .if1 .left) ∙ below-yes _ _ _ _ (c .if2 .taken))))
+
+returns-3 : tie.Need-returns-3
+unfolding verdictIn scanned
+returns-3 c =
+    let e = c .before .before in
+    let d = e .before .before in
+    let a = d .before .before .before .args in
+    c .priced .ensures
+    ∙ ap (λ t. scanned (a .input) (a .model) (pricedIn t)) (c .before .terms-wide .ensures)
+    ∙ rw (← d .before .before .first-failed-gate .ensures, ← d .cost-exact .ensures)
+    (sym (ap (scanned _ _) (below-no _ _ _ _ (d .before .if1 .left) ∙ below-no _ _ _ _ (e .if2 .left))))
+
+pub candidate-verdict-spec : {M : Type 1} → statement M
+candidate-verdict-spec =
+    tie.close
+    (tie.spec
+    (λ c κs. search needs)
+    (λ c κs. search needs)
+    (λ c κs. search needs)
+    returns
+    (λ c κs. search needs)
+    returns-2
+    (λ c κs. search needs)
+    (λ c κs. search needs)
+    returns-3)

@@ -1,0 +1,10 @@
+-- `searches::asked_at` meets its contract. Assumes nothing.
+use borrow.Author.Needs.{needs}
+use Rattle.searches.proofs.pass.asked_at.Statement.{statement}
+use Rattle.searches.proofs.pass.asked_at.Tie as tie
+
+returns : tie.Need-returns
+returns c = rw (c .model-at .ensures)
+
+pub asked-at-spec : {M : Type 1} → statement M
+asked-at-spec = tie.close (tie.spec (λ c κs. search needs) returns)

@@ -1,0 +1,3 @@
+-- Order by any key, and what moves inside a bank.
+pub mod Keyed
+pub mod Bytes

@@ -1,0 +1,3 @@
+-- What a view decides, and that its answers are determined.
+pub mod Standing
+pub mod Answers
