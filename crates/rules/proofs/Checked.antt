@@ -27,7 +27,7 @@ use Rattle.rules.specs.Stored.{fieldBytes, fits, bodyOf, afterOf, fieldF
 use Rattle.rules.specs.Text.{text, digitsOf, decimal, signedDecimal, spaced, line}
 use Rattle.rules.specs.Printed.{decisionLine, countsLine, costText, leverLine, leverLines, passesLine, refusedLine, programFaults, unitReport, unitText, askFaults, askReport, askText, printOf, printBuffer}
 use Rattle.rules.specs.Words.{sentence, digit, percent, riseWords, latencyWords, costWords, priceWords, switchWords, leverWords, leversWords, stoppedWords, chosenWords, offWords, noneWords, wordsReport, askWords}
-use Rattle.rules.proofs.Forms.{storedRows, requestRows, printedRows}
+use Rattle.rules.proofs.Printing.{storedRows, requestRows, printedRows}
 use Rattle.rules.proofs.Loading.{validationRows, trustRows, nextRows, batchRows}
 use Rattle.rules.proofs.Vectors.{byteRows, gateRows, reasonRows, rankRows, refusalRows, boundaryRows}
 

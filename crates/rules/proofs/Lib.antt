@@ -15,5 +15,5 @@ pub mod Rows
 pub mod Table
 pub mod Vectors
 pub mod Loading
-pub mod Forms
+pub mod Printing
 pub mod Checked

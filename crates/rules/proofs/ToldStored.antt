@@ -3,12 +3,12 @@ use Prim.Native.Nat.{ℕ}
 use mathlib.Core.Path.{_≡_, refl, ap}
 use Rattle.rules.specs.Numbers.{Answer, refused, answered, StoredPolicy, toldStored, toldRequest, toldWritten}
 use Rattle.rules.specs.declared.records.KernelInput.{KernelInput}
-use Rattle.rules.specs.declared.stored.StoredRead.{StoredRead}
-use Rattle.rules.specs.declared.stored.StoredRead.the-variants as stored
-use Rattle.rules.specs.declared.stored.RequestRead.{RequestRead}
-use Rattle.rules.specs.declared.stored.RequestRead.the-variants as request
-use Rattle.rules.specs.declared.stored.Written.{Written}
-use Rattle.rules.specs.declared.stored.Written.the-variants as written
+use Rattle.rules.specs.declared.forms.StoredRead.{StoredRead}
+use Rattle.rules.specs.declared.forms.StoredRead.the-variants as stored
+use Rattle.rules.specs.declared.forms.RequestRead.{RequestRead}
+use Rattle.rules.specs.declared.forms.RequestRead.the-variants as request
+use Rattle.rules.specs.declared.forms.Written.{Written}
+use Rattle.rules.specs.declared.forms.Written.the-variants as written
 use Rattle.rules.proofs.Told.{one-answer, Determined, refusalFrom, refusal-back}
 
 abbrev pub storedFrom : Answer StoredPolicy → StoredRead

@@ -32,12 +32,12 @@ use Rattle.rules.specs.declared.decision.UtilityFound.{UtilityFound}
 use Rattle.rules.specs.declared.decision.UtilityFound.the-variants as utility
 use Rattle.rules.specs.declared.decision.Found.{Found}
 use Rattle.rules.specs.declared.decision.Found.the-variants as found
-use Rattle.rules.specs.declared.stored.StoredRead.{StoredRead}
-use Rattle.rules.specs.declared.stored.StoredRead.the-variants as stored
-use Rattle.rules.specs.declared.stored.RequestRead.{RequestRead}
-use Rattle.rules.specs.declared.stored.RequestRead.the-variants as request
-use Rattle.rules.specs.declared.stored.Written.{Written}
-use Rattle.rules.specs.declared.stored.Written.the-variants as written
+use Rattle.rules.specs.declared.forms.StoredRead.{StoredRead}
+use Rattle.rules.specs.declared.forms.StoredRead.the-variants as stored
+use Rattle.rules.specs.declared.forms.RequestRead.{RequestRead}
+use Rattle.rules.specs.declared.forms.RequestRead.the-variants as request
+use Rattle.rules.specs.declared.forms.Written.{Written}
+use Rattle.rules.specs.declared.forms.Written.the-variants as written
 use Rattle.rules.specs.declared.verdict.CandidateVerdict.{CandidateVerdict}
 use Rattle.rules.specs.declared.verdict.CandidateVerdict.the-variants as verdict
 use Rattle.rules.specs.declared.verdict.UtilityTerms.{UtilityTerms}

@@ -2,10 +2,10 @@
 // What they mean is said in specs/. No code here does more than give a case its number.
 pub mod boundary;
 pub mod decision;
+pub mod forms;
 pub mod limits;
 pub mod records;
 pub mod refusal;
-pub mod stored;
 pub mod verdict;
 pub mod wide;
 
@@ -23,15 +23,15 @@ pub use decision::Prescribed;
 pub use decision::RejectionHistogram;
 pub use decision::Traced;
 pub use decision::UtilityFound;
+pub use forms::RequestRead;
+pub use forms::StoredRead;
+pub use forms::Written;
 pub use records::KernelInput;
 pub use records::KernelModel;
 pub use records::PolicySnapshot;
 pub use refusal::Outcome;
 pub use refusal::Refusal;
 pub use refusal::Trusted;
-pub use stored::RequestRead;
-pub use stored::StoredRead;
-pub use stored::Written;
 pub use verdict::CandidateVerdict;
 pub use verdict::GateDetail;
 pub use verdict::NextEligible;

@@ -1,0 +1,110 @@
+-- One field both ways, whatever its tag: what was written is read, and what was read is written. Assumes nothing.
+use Prim.Native.Nat.{ℕ, _+_, _≤_, _<_}
+use mathlib.Core.Path.{_≡_, refl, sym, ap, _∙_}
+use mathlib.Core.Bool.{true}
+use mathlib.Core.List.{List, [], _∷_, _++_, append-assoc, append-nil}
+use native.Mathlib.Omega.{arith}
+use lib.ListN.{length, getD, take, drop, length-append, length-take, length-drop, take-append-drop}
+use lib.Seq.{drop-cons, drop-drop, take-append-seam, drop-append-seam}
+use Rattle.rules.specs.Limits.{fieldHeaderBytes}
+use Rattle.rules.specs.Bytes.{bytesOf}
+use Rattle.rules.specs.Stored.{fieldBytes, fits, tagOf, bodyLength, bodyOf, afterOf, fieldFaults, formFaults}
+use Rattle.rules.proofs.Choices.{below-no, equal-yes, equal-no}
+use Rattle.endian.proofs.Numbers.{Small, small-take, small-drop, number-bytes, number-one, bytes-number}
+use Rattle.stored.proofs.Buffers.{some-fault}
+use Rattle.stored.proofs.OneField.{Passed, first-tag, body-length}
+
+-- ---- a field that passes has no fault
+
+pub field-passes : (tag : ℕ) (s : List ℕ) → Passed tag s → fieldFaults tag s ≡ []
+unfolding fieldFaults
+field-passes tag s p =
+    rw (
+      equal-no (length s) 0 _ _ (λ e. omega (arith, e, p .whole)),
+      below-no (length s) fieldHeaderBytes _ _ (omega (arith, p .whole)),
+      equal-yes (tagOf s) tag _ _ (p .lead),
+      p .right,
+      below-no (length s) (fieldHeaderBytes + bodyLength s) _ _ (p .whole),
+    )
+
+pub form-passes : (tag : ℕ) (tags s : List ℕ) → Passed tag s → formFaults tags (afterOf s) ≡ [] → formFaults (tag ∷ tags) s ≡ []
+unfolding formFaults
+form-passes tag tags s p e = rw (field-passes tag s p, e)
+
+-- THE END, both ways: nothing is left
+pub end-passes : formFaults [] [] ≡ []
+unfolding formFaults
+end-passes = equal-yes 0 0 _ _ refl
+
+pub end-passed : (s : List ℕ) → formFaults [] s ≡ [] → s ≡ []
+unfolding formFaults
+end-passed [] e = refl
+end-passed (b ∷ s) e =
+    some-fault (sym (equal-no (length (b ∷ s)) 0 _ _ (λ (z : length (b ∷ s) ≡ 0). omega arith)) ∙ e)
+
+-- ---- a field that was written, before some rest
+
+module _ (tag : ℕ) (body rest : List ℕ) where
+  -- its tag, what stands after its header, and how long it is
+  written-lead : tagOf (fieldBytes tag body ++ rest) ≡ tag
+  unfolding fieldBytes
+  written-lead = number-one tag
+
+  written-after : drop fieldHeaderBytes (fieldBytes tag body ++ rest) ≡ body ++ rest
+  unfolding fieldBytes bytesOf
+  written-after = refl
+
+  written-long : length (fieldBytes tag body ++ rest) ≡ fieldHeaderBytes + (length body + length rest)
+  unfolding fieldBytes bytesOf
+  written-long = simp length-append (omega arith)
+
+  module _ (h : length body < 65536) where
+    written-size : bodyLength (fieldBytes tag body ++ rest) ≡ length body
+    unfolding fieldBytes bytesOf
+    written-size = number-bytes 2 (length body) h
+
+    -- ITS BODY AND THE REST COME BACK
+    pub body-back : bodyOf (fieldBytes tag body ++ rest) ≡ body
+    unfolding bodyOf
+    body-back = rw (written-size, written-after) (take-append-seam body rest)
+
+    pub rest-back : afterOf (fieldBytes tag body ++ rest) ≡ rest
+    unfolding afterOf
+    rest-back = rw (written-size, ← drop-drop (length body) fieldHeaderBytes (fieldBytes tag body ++ rest), written-after) (drop-append-seam body rest)
+
+    -- IT PASSES
+    pub written-passes : fits tag (length body) ≡ true → Passed tag (fieldBytes tag body ++ rest)
+    written-passes f =
+        record {
+          lead = written-lead;
+          right = rw written-size f;
+          whole = omega (arith, written-long, written-size);
+        }
+
+-- ---- a field that was read
+
+-- its body and what stands after it
+parts : (s : List ℕ) → bodyOf s ++ afterOf s ≡ drop fieldHeaderBytes s
+unfolding bodyOf afterOf
+parts s =
+    ap (λ (t : List ℕ). take (bodyLength s) (drop fieldHeaderBytes s) ++ t) (sym (drop-drop (bodyLength s) fieldHeaderBytes s))
+    ∙ take-append-drop (bodyLength s) (drop fieldHeaderBytes s)
+
+-- A FIELD THAT PASSES IS WRITTEN AS IT WAS, before what stood after it
+pub field-forth : (tag : ℕ) (s : List ℕ) → Small s → Passed tag s → fieldBytes tag (bodyOf s) ++ afterOf s ≡ s
+unfolding fieldBytes
+field-forth tag s small p =
+    let h : fieldHeaderBytes ≤ length s = omega (arith, p .whole) in
+    let lead : tag ≡ getD s 0 0 = sym (first-tag s h ∙ p .lead) in
+    let two : length (take 2 (drop 1 s)) ≡ 2 = simp (length-take, length-drop) (omega arith) in
+    let size : bytesOf 2 (length (bodyOf s)) ≡ take 2 (drop 1 s) =
+    ap (bytesOf 2) (body-length s (p .whole)) ∙ rw two at (bytes-number (take 2 (drop 1 s)) (small-take 2 (drop 1 s) (small-drop 1 s small))) in
+    ap (λ (t : List ℕ). tag ∷ t) (append-assoc (bytesOf 2 (length (bodyOf s))) (bodyOf s) (afterOf s))
+    ∙ (λ i. lead i ∷ (size i ++ parts s i))
+    ∙ ap (λ (t : List ℕ). getD s 0 0 ∷ (take 2 (drop 1 s) ++ t)) (sym (drop-drop 2 1 s))
+    ∙ ap (λ (t : List ℕ). getD s 0 0 ∷ t) (take-append-drop 2 (drop 1 s))
+    ∙ sym (drop-cons s 0 0 (omega arith))
+
+-- The last one alone
+pub last-forth : (tag : ℕ) (s : List ℕ) → Small s → Passed tag s → formFaults [] (afterOf s) ≡ [] → fieldBytes tag (bodyOf s) ≡ s
+last-forth tag s small p e = sym (append-nil (fieldBytes tag (bodyOf s))) ∙ ap (λ (t : List ℕ). fieldBytes tag (bodyOf s) ++ t) (sym (end-passed (afterOf s) e)) ∙ field-forth tag s small p

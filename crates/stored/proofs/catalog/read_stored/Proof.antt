@@ -1,0 +1,75 @@
+-- `stored::catalog::read_stored` meets its contract. Assumes nothing.
+use Prim.Native.Nat.{ℕ}
+use mathlib.Core.Path.{_≡_, refl, ap, _∙_}
+use mathlib.Core.List.{List}
+use native.Mathlib.Omega.{arith}
+use borrow.Author.Needs.{needs}
+use denote.Ref.{now}
+use lib.ListN.{length}
+use Rattle.rules.specs.Records.{policyOf}
+use Rattle.rules.specs.Stored.{bodyOf, storedBank, readStoredOf, readStoredBuffer}
+use Rattle.stored.proofs.Buffers.{none-told, stays}
+use Rattle.stored.proofs.Reading.{CatalogFields, catalog-fields, policy-length, reading-refused, reading-short, reading-none, stored-read}
+use Rattle.stored.proofs.catalog.read_stored.Statement.{statement}
+use Rattle.stored.proofs.catalog.read_stored.Tie as tie
+
+returns : tie.Need-returns
+unfolding readStoredOf readStoredBuffer
+returns c =
+    stays _ _ _ _ refl (reading-refused _ _ (c .before .before .before .lay-out .ensures) (c .before .outcome .given .1))
+
+abbrev form₀ : tie.After-enum-told → List ℕ
+form₀ c = now (c .before .before .before .before .before .before .args .form)
+
+-- the form passes
+fields : (c : tie.After-enum-told) → CatalogFields (form₀ c)
+fields c = catalog-fields _ (none-told _ (c .enum-told .given .1) (c .before .before .lay-out .ensures))
+
+front-body-requires : tie.Need-front-body-requires
+front-body-requires c κs = rw (c .after-front .ensures) (fields (c .before) .bank .whole)
+
+-- the models' bytes, as the code took them
+models : (c : tie.After-front-body) → now (c .front-body .result) ≡ storedBank (form₀ (c .before .before))
+models c = c .front-body .ensures ∙ ap bodyOf (c .before .after-front .ensures)
+
+returns-2 : tie.Need-returns-2
+unfolding readStoredOf readStoredBuffer
+returns-2 c =
+    let f = c .before in
+    let e = f .before .before in
+    stays _ _ _ _ refl
+    (reading-short _ _ (e .before .before .lay-out .ensures) (e .enum-told .given .1) (omega (arith, ap length (models f), c .if1 .taken)))
+
+policy-of-requires : tie.Need-policy-of-requires
+policy-of-requires c κs =
+    let e = c .before .before .before .before .before .before .before .before in
+    rw (c .front-body2 .ensures) (omega (arith, policy-length (form₀ e) (fields e .policy)))
+
+returns-3 : tie.Need-returns-3
+returns-3 c =
+    let f = c .before .before .before .before .before .before .before in
+    let e = f .before .before in
+    let long = c .before .before .before .before .before .before .if1 .left in
+    stored-read (form₀ e) _
+    (reading-none _ _ (e .before .before .lay-out .ensures) (e .enum-told .given .1) (omega (arith, ap length (models f), long)))
+    (c .policy-of .ensures ∙ ap policyOf (c .before .front-body2 .ensures))
+    (models f)
+    (c .before .before .before .before .put-bytes .ensures)
+
+pub read-stored-spec : {M : Type 1} → statement M
+read-stored-spec =
+    tie.close
+    (tie.spec
+    (λ c. search needs)
+    (λ c κs. search needs)
+    (λ c. search needs)
+    returns
+    (λ c. search needs)
+    (λ c κs. fields c .policy .whole)
+    front-body-requires
+    returns-2
+    (λ c κs. search needs)
+    (λ c κs. fields (c .before .before .before .before .before .before .before) .policy .whole)
+    policy-of-requires
+    (λ c. search needs)
+    returns-3)

@@ -1,0 +1,35 @@
+-- `stored::request::write_request` meets its contract. Assumes nothing.
+use mathlib.Core.Path.{refl, ap}
+use native.Mathlib.Omega.{arith}
+use Rattle.rules.specs.Stored.{fieldBytes, requestForm, writeRequestOf, writeRequestBuffer}
+use Rattle.splice.proofs.Pieces.{written-as}
+use Rattle.stored.proofs.Buffers.{room-short, room-enough, fills, stays}
+use Rattle.stored.proofs.Writing.{length-request}
+use borrow.Author.Needs.{needs}
+use Rattle.stored.proofs.request.write_request.Statement.{statement}
+use Rattle.stored.proofs.request.write_request.Tie as tie
+
+returns : tie.Need-returns
+unfolding writeRequestOf writeRequestBuffer
+returns c =
+    stays _ _ _ _ refl (room-short _ _ (omega (arith, length-request (c .before .before .args .input), c .if1 .taken)))
+
+returns-2 : tie.Need-returns-2
+unfolding writeRequestOf writeRequestBuffer requestForm
+returns-2 c =
+    let s = c .before .before .before .before .before .before .before .before in
+    let b = c .before .before .before .before .before in
+    fills _ (room-enough _ _ (omega (arith, length-request (s .args .input), b .before .if1 .left)))
+    (written-as (c .before .before .put-field .ensures) (ap (fieldBytes 3) (b .input-bytes .ensures)))
+
+pub write-request-spec : {M : Type 1} → statement M
+write-request-spec =
+    tie.close
+    (tie.spec
+    (λ c. search needs)
+    returns
+    (λ c κs. search needs)
+    (λ c. search needs)
+    (λ c κs. search needs)
+    (λ c. search needs)
+    returns-2)

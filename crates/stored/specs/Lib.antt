@@ -1,0 +1,2 @@
+-- What the field reader tells, and what writing refuses.
+pub mod Fields

@@ -1,0 +1,77 @@
+// The stored form of a policy with its bank: tag 1, tag 2, the end.
+ghost use mathlib.Core.Path.{_≡_};
+ghost use lib.ListN.{length};
+ghost use Rattle.rules.specs.Numbers.{toldStored, toldWritten};
+ghost use Rattle.rules.specs.Stored.{writeStoredOf, writeStoredBuffer, readStoredOf, readStoredBuffer};
+ghost use Rattle.kernel.specs.Refuse.{leading, toldLeading};
+ghost use Rattle.stored.specs.Fields.{writingFaults};
+use crate::fields::BANK_TAG;
+use crate::fields::POLICY_TAG;
+use crate::fields::after_front;
+use crate::fields::front_body;
+use crate::fields::lay_out;
+use crate::fields::put_field;
+use bank::policy_bytes;
+use bank::policy_of;
+use kernel::refuse::bank_outcome;
+use rules::Outcome;
+use rules::PolicySnapshot;
+use rules::Refusal;
+use rules::StoredRead;
+use rules::Written;
+use rules::limits::FIELD_HEADER_BYTES;
+use rules::limits::MAX_STORED_MODELS;
+use rules::limits::POLICY_BYTES;
+use rules::limits::RECORD_BYTES;
+use splice::put_bytes;
+
+// Whether a bank of so many bytes can be written into so much room, and if not, why.
+fn writing(length: usize, room: usize) -> Outcome
+    ensures { λ r. ⌜ toldLeading r ≡ leading (writingFaults length room) ⌝ }
+{
+    let outcome = bank_outcome(length);
+    if let Outcome::Refused(refusal) = outcome {
+        return Outcome::Refused(refusal);
+    }
+    if MAX_STORED_MODELS < length / RECORD_BYTES {
+        return Outcome::Refused(Refusal::TooManyToStore);
+    }
+    if room < FIELD_HEADER_BYTES + POLICY_BYTES + (FIELD_HEADER_BYTES + length) {
+        return Outcome::Refused(Refusal::NoRoom);
+    }
+    Outcome::Answered
+}
+
+// Writes a policy with its bank to the start of a buffer, whose other bytes stay. Refused: 1, 2, 18, 4.
+pub fn write_stored(policy: PolicySnapshot, bank: &[u8], out: &mut [u8]) -> Written
+    ensures { λ r. ⌜ (toldWritten r ≡ writeStoredOf policy (now (bank .entry)) (length (now (out .entry)))) × (now (out .exit) ≡ writeStoredBuffer policy (now (bank .entry)) (now (out .entry))) ⌝ }
+{
+    let outcome = writing(bank.len(), out.len());
+    if let Outcome::Refused(refusal) = outcome {
+        return Written::Refused(refusal);
+    }
+    let head = policy_bytes(policy);
+    let next = put_field(out, 0, POLICY_TAG, &head);
+    let end = put_field(out, next, BANK_TAG, bank);
+    Written::Bytes(end)
+}
+
+// Reads a policy with its bank. The models' bytes go to the start of a buffer, whose other bytes stay; none is copied before the form's end
+// was seen. Refused: 20, 21, 22 at each field in its turn, then 4.
+pub fn read_stored(form: &[u8], buffer: &mut [u8]) -> StoredRead
+    ensures { λ r. ⌜ (toldStored r ≡ readStoredOf (now (form .entry)) (length (now (buffer .entry)))) × (now (buffer .exit) ≡ readStoredBuffer (now (form .entry)) (now (buffer .entry))) ⌝ }
+{
+    let tags = [POLICY_TAG, BANK_TAG];
+    let outcome = lay_out(form, &tags);
+    if let Outcome::Refused(refusal) = outcome {
+        return StoredRead::Refused(refusal);
+    }
+    let bank = front_body(after_front(form));
+    let size = bank.len();
+    if buffer.len() < size {
+        return StoredRead::Refused(Refusal::NoRoom);
+    }
+    put_bytes(buffer, 0, bank);
+    let policy = policy_of(front_body(form));
+    StoredRead::Read(policy, size)
+}

@@ -1,0 +1,3 @@
+-- Laws of numbers and lines as text, which callers cite.
+pub mod Digits
+pub mod Words

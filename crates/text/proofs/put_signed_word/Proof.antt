@@ -1,0 +1,27 @@
+-- `text::put_signed_word` meets its contract. Assumes nothing.
+use mathlib.Core.Path.{ap, _∙_}
+use mathlib.Core.List.{[], _∷_}
+use native.Mathlib.Omega.{arith}
+use borrow.Author.Needs.{needs}
+use lib.IntN.{ℤ}
+use Rattle.rules.specs.Text.{signedDecimal, spaced}
+use Rattle.endian.proofs.Signs.{signed-bits}
+use Rattle.splice.proofs.Pieces.{written-then, written-as}
+use Rattle.text.proofs.Words.{spaced-one}
+use Rattle.text.proofs.put_signed_word.Statement.{statement}
+use Rattle.text.proofs.put_signed_word.Tie as tie
+
+returns : tie.Need-returns
+returns c =
+    let p = c .before .before .before .before .before .before in
+    let s = c .before .before .put-signed .ensures in
+    let a = p .before .before .before .before in (
+      written-as (written-then (p .put-text .ensures) (s .0))
+          (spaced-one _ ∙ ap (λ (z : ℤ). spaced (signedDecimal z ∷ [])) (signed-bits (a .args .n) (a .fits .n))),
+      omega (arith, p .put-text .ensures .ends, s .1),
+    )
+
+pub put-signed-word-spec : {M : Type 1} → statement M
+put-signed-word-spec =
+    tie.close
+    (tie.spec (λ c. search needs) (λ c κs. search needs) (λ c κs. search needs) (λ c. search needs) returns)

@@ -1,0 +1,32 @@
+-- `text::put_word` meets its contract. Assumes nothing.
+use Prim.Native.Nat.{_≤_}
+use native.Mathlib.Omega.{arith}
+use borrow.Author.Needs.{needs}
+use lib.ListN.{length}
+use Rattle.rules.specs.Text.{decimal}
+use Rattle.splice.proofs.Pieces.{written-then, written-as}
+use Rattle.text.proofs.Digits.{decimal-twenty}
+use Rattle.text.proofs.Words.{spaced-one}
+use Rattle.text.proofs.put_word.Statement.{statement}
+use Rattle.text.proofs.put_word.Tie as tie
+
+few : (c : tie.Start) → length (decimal (c .args .n)) ≤ 20
+few c = decimal-twenty (c .args .n) (c .fits .n .fits)
+
+put-decimal-requires : tie.Need-put-decimal-requires
+put-decimal-requires c κs =
+    let p = c .before .before .before in
+    omega (arith, few (p .before .before .before .before), p .put-text .ensures .ends, p .put-text .kept .0)
+
+returns : tie.Need-returns
+returns c =
+    let p = c .before .before .before .before .before .before in
+    let w = written-then (p .put-text .ensures) (c .before .before .put-decimal .ensures) in (
+      written-as w (spaced-one _),
+      omega (arith, p .put-text .ensures .ends, c .before .before .put-decimal .ensures .ends, few (p .before .before .before .before)),
+    )
+
+pub put-word-spec : {M : Type 1} → statement M
+put-word-spec =
+    tie.close
+    (tie.spec (λ c. search needs) (λ c κs. search needs) put-decimal-requires (λ c. search needs) returns)
