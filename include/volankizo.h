@@ -7,14 +7,25 @@
  * A bank is any number of models up to 65,535, of 47 bytes each: id u32, provider u16, quality u16, ceiling u16, enabled u8, latency u32,
  * capabilities u64, regions u64, input price u64, output price u64.
  *
- * Every function takes any bytes. It answers 0 and writes its answer to the start of `out`, or answers a refusal and writes nothing; bytes of
- * `out` after the answer stay as they were. Of several refusals the first in the order given with each function comes back:
+ * Every function takes any bytes. It answers 0 and writes its answer to the start of `out`, or answers a refusal and writes nothing (but for
+ * volankizo_trust, see there); bytes of `out` after the answer stay as they were. A buffer that is written overlaps nothing else that is lent.
+ * Of several refusals the first in the order given with each function comes back:
  *   22  a policy is not 30 bytes long, or a request not 70
  *    1  the bank's length is no multiple of 47
  *    2  the bank has more than 65,535 records
- *    4  `out` is too short for the answer
+ *    4  `out` or `list` is too short for the answer
  *    3  risk (field 1), confidence (2) or minimum quality (3) is above 10,000; with the field and the value
+ *    5  the id is not listed
+ *    6  the decision is a rejection
  *    7  the request is stopped by 100 or 101, the id is not listed, or its first listed record is not eligible
+ *   10  hard risk limit (field 4) or minimum confidence (5) is above 10,000, or the multiplier (6) above 50,000; with the field and the value
+ *   11  the bank has no record
+ *   12  an id that an earlier record has; with the id
+ *   13  a provider above 63; with the id and the provider
+ *   14  a quality (field 7) or a ceiling (8) above 10,000; with the field, the id and the value
+ *   15  no record has enabled other than 0
+ *   16  some id is 0
+ *   17  enabled is above 1; with the id and the value
  * as number + 2^8 * field + 2^16 * value + 2^32 * (id or place), see the macros below. */
 #ifndef VOLANKIZO_H
 #define VOLANKIZO_H
@@ -30,8 +41,12 @@ extern "C" {
 #define VOLANKIZO_POLICY_BYTES 30
 #define VOLANKIZO_REQUEST_BYTES 70
 #define VOLANKIZO_DECISION_BYTES 83
+#define VOLANKIZO_UNCOUNTED_BYTES 65
 #define VOLANKIZO_UTILITY_BYTES 8
 #define VOLANKIZO_PLACE_BYTES 2
+#define VOLANKIZO_NEXT_BYTES 8
+#define VOLANKIZO_EXPLANATION_BYTES 72
+#define VOLANKIZO_BOUNDARY_BYTES 183
 
 /* The parts of a refusal. */
 #define VOLANKIZO_NUMBER(word) ((unsigned)((word) & 0xff))
@@ -59,6 +74,37 @@ uint64_t volankizo_find(const uint8_t *bank, size_t bank_len, uint32_t id, uint8
 
 /* Whether a request would pass the checked call. Writes nothing. Refusals: 22, 3. */
 uint64_t volankizo_check_request(const uint8_t *request, size_t request_len);
+
+/* Decides, and tells what became of every record. `out`: 65 bytes, the decision as above without its counts. `list`: 72 bytes for each
+ * record, in the order of the bank, and none where the request is stopped by 100 or 101: model u32 at 0, place u16 at 4, verdict u8 at 6
+ * (1 rejected, 2 over budget, 3 utility not positive, 4 eligible), gate u8 at 7 (1 to 8, else 0), measured, cost or quality term at 8 and
+ * limit, budget or risk term at 24 (16 bytes each), cost u64 at 40, latency term at 48 (16 bytes), utility i64 at 64; from 40 on zero for
+ * verdicts 1 and 2. Bytes of `list` after the last entry stay. Refusals: 22, 1, 2, 4 (of either buffer). */
+uint64_t volankizo_explain(const uint8_t *policy, size_t policy_len, const uint8_t *request, size_t request_len, const uint8_t *bank,
+                           size_t bank_len, uint8_t *list, size_t list_len, uint8_t *out, size_t out_len);
+
+/* The place of the next eligible entry (verdict 4) of such a list, at or after `from`: 8 bytes, u64; 2^64 - 1 where there is none.
+ * Refusals: 4. */
+uint64_t volankizo_next_eligible(const uint8_t *list, size_t list_len, uint64_t from, uint8_t *out, size_t out_len);
+
+/* Whether a policy with its bank may serve. Writes nothing. Refusals: 22, 1, 2, 10, 11, then record by record 12, 13, 14, then 15. */
+uint64_t volankizo_validate(const uint8_t *policy, size_t policy_len, const uint8_t *bank, size_t bank_len);
+
+/* Puts the bank in ascending id order, equal ids in their old order, and validates it. Refusals that leave the bank as it was: 22, 1, 2, 16,
+ * 17; then, with the bank in order, 10, 11, record by record 12, 13, 14, then 15. */
+uint64_t volankizo_trust(const uint8_t *policy, size_t policy_len, uint8_t *bank, size_t bank_len);
+
+/* For a model that was not selected, by each lever alone: the smallest change after which it is. 183 bytes: the decision without its counts at
+ * 0, model u32 at 65, blocked by the request u8 at 69 (1 where 100 or 101 stops it), count of levers u8 at 70, passes u64 at 71; then four
+ * rooms of 26 bytes from 79 on, the unused ones zero, in each: lever u8 at 0 (1 quality, 2 latency, 3 price scale, 4 ceiling, 5 enabled),
+ * current u64 at 1, boundary u64 at 9, priced u8 at 17 (1 where a cost is carried), cost u64 at 18.
+ * Refusals: 22, 1, 2, 4, 5. */
+uint64_t volankizo_what_would_win(const uint8_t *policy, size_t policy_len, const uint8_t *request, size_t request_len, const uint8_t *bank,
+                                  size_t bank_len, uint32_t id, uint8_t *out, size_t out_len);
+
+/* For the model that was selected: how far each lever can move before it is not. The same 183 bytes. Refusals: 22, 1, 2, 4, 6. */
+uint64_t volankizo_decision_margin(const uint8_t *policy, size_t policy_len, const uint8_t *request, size_t request_len,
+                                   const uint8_t *bank, size_t bank_len, uint8_t *out, size_t out_len);
 
 #ifdef __cplusplus
 }

@@ -25,7 +25,8 @@ struct question {
  * them than are taken, so all are called alike. */
 typedef u64 exported(u64, u64, u64, u64, u64, u64, u64, u64, u64, u64, u64, u64);
 
-exported volankizo_prescribe, volankizo_prescribe_checked, volankizo_utility_for_model, volankizo_find, volankizo_check_request;
+exported volankizo_prescribe, volankizo_prescribe_checked, volankizo_utility_for_model, volankizo_find, volankizo_check_request,
+    volankizo_explain, volankizo_next_eligible, volankizo_validate, volankizo_trust, volankizo_what_would_win, volankizo_decision_margin;
 
 static const struct {
     const char *name;
@@ -36,6 +37,12 @@ static const struct {
     {"utility_for_model", volankizo_utility_for_model},
     {"find", volankizo_find},
     {"check_request", volankizo_check_request},
+    {"explain", volankizo_explain},
+    {"next_eligible", volankizo_next_eligible},
+    {"validate", volankizo_validate},
+    {"trust", volankizo_trust},
+    {"what_would_win", volankizo_what_would_win},
+    {"decision_margin", volankizo_decision_margin},
 };
 
 enum { SYS_READ = 0, SYS_WRITE = 1, SYS_MMAP = 9, SYS_MPROTECT = 10, SYS_EXIT = 60 };

@@ -1,7 +1,9 @@
 //! What a run of cases reaches, in figures: a generator that misses a rule shows here.
-use crate::calls::{Answer, Call, CALLS};
+use crate::calls::{Answer, Call, CALLS, EXPLAIN, MARGIN, NEXT, PRESCRIBE, TRUST, WIN};
 use crate::case::Case;
+use crate::second::boundaries::passes_and_levers;
 use crate::second::bytes::{models_of, policy_of, request_of, RECORD_BYTES};
+use crate::second::explanation::{EXPLANATION_BYTES, NO_MORE};
 use oracle::kernel::{CandidateVerdict, Explanation, KernelModel, UtilityTerms};
 use std::cmp::Reverse;
 use std::collections::{BTreeMap, BTreeSet};
@@ -18,6 +20,10 @@ pub struct Figures {
     pub refused: BTreeMap<(usize, u8), u64>,
     /// How often a decision had this property.
     pub seen: BTreeMap<String, u64>,
+    /// For each call after the decisions, how often its answer had this property.
+    pub found: BTreeMap<(usize, String), u64>,
+    /// The most passes of one search, for each call that searches.
+    pub passes: BTreeMap<usize, u64>,
     decided: u64,
 }
 
@@ -25,11 +31,54 @@ impl Figures {
     /// Notes what one call owes on one case.
     pub fn note(&mut self, call: usize, case: &Case, owed: &Answer) {
         self.asked[call] += 1;
-        match owed {
-            Err(refusal) => *self.refused.entry((call, refusal.number)).or_default() += 1,
-            Ok(decision) if call == 0 => self.note_decision(case, decision),
-            Ok(_) => {}
+        if let Some(refusal) = owed.refusal {
+            *self.refused.entry((call, refusal.number)).or_default() += 1;
         }
+        match (call, owed.refusal) {
+            (TRUST, refusal) if !owed.bank.is_empty() && owed.bank != case.bank => {
+                self.find(call, if refusal.is_none() { "bank reordered" } else { "bank reordered, though refused" });
+            }
+            (_, Some(_)) => {}
+            (PRESCRIBE, None) => self.note_decision(case, &owed.out),
+            (EXPLAIN, None) => self.note_verdicts(&owed.list),
+            (NEXT, None) if owed.out == NO_MORE.to_le_bytes() => self.find(call, "none"),
+            (WIN | MARGIN, None) => self.note_search(call, &owed.out),
+            _ => {}
+        }
+    }
+
+    /// Each verdict with its gate that is in a list.
+    fn note_verdicts(&mut self, list: &[u8]) {
+        let pairs: BTreeSet<(u8, u8)> = list.chunks_exact(EXPLANATION_BYTES).map(|it| (it[6], it[7])).collect();
+        if pairs.is_empty() {
+            self.find(EXPLAIN, "no record");
+        }
+        for (verdict, gate) in pairs {
+            match gate {
+                0 => self.find(EXPLAIN, &format!("some with verdict {verdict}")),
+                _ => self.find(EXPLAIN, &format!("some with verdict {verdict}, gate {gate}")),
+            }
+        }
+    }
+
+    /// The levers of a search, and whether there was one: stopped, selected and switched off need none.
+    fn note_search(&mut self, call: usize, answer: &[u8]) {
+        let (passes, levers) = passes_and_levers(answer);
+        let most = self.passes.entry(call).or_default();
+        *most = passes.max(*most);
+        match passes {
+            1 => self.find(call, "1 pass, no search"),
+            2 => self.find(call, "2 passes, switched off"),
+            _ => self.find(call, SEARCHED),
+        }
+        self.find(call, &format!("with {} levers", levers.len()));
+        for lever in levers {
+            self.find(call, &format!("lever {}", LEVERS[usize::from(lever) - 1]));
+        }
+    }
+
+    fn find(&mut self, call: usize, what: &str) {
+        *self.found.entry((call, what.into())).or_default() += 1;
     }
 
     fn note_decision(&mut self, case: &Case, decision: &[u8]) {
@@ -67,6 +116,11 @@ impl Figures {
         *self.seen.entry(what).or_default() += 1;
     }
 }
+
+pub const SEARCHED: &str = "searched";
+
+/// The levers by their numbers.
+pub const LEVERS: [&str; 5] = ["1 quality", "2 latency", "3 price scale", "4 ceiling", "5 enabled"];
 
 pub const COUNTS: [&str; 9] =
     ["disabled", "quality", "ceiling", "latency", "capability", "provider", "region", "budget", "utility"];
@@ -118,6 +172,15 @@ impl fmt::Display for Table<'_> {
             for number in self.names(|figures| figures.refused.keys().filter(|k| k.0 == call).map(|k| k.1).collect()) {
                 let part = |figures: &Figures| figures.refused.get(&(call, number)).copied();
                 self.row(f, &format!("  refused {number}"), |(_, it)| share(part(it), it.asked[call]))?;
+            }
+            let found = |figures: &Figures| figures.found.keys().filter(|k| k.0 == call).map(|k| k.1.clone()).collect();
+            for what in self.names(found) {
+                let part = |figures: &Figures| figures.found.get(&(call, what.clone())).copied();
+                self.row(f, &format!("  {what}"), |(_, it)| share(part(it), it.asked[call]))?;
+            }
+            if self.0.iter().any(|(_, figures)| figures.passes.contains_key(&call)) {
+                let most = |figures: &Figures| figures.passes.get(&call).copied().unwrap_or(0);
+                self.row(f, "  most passes", |(_, it)| most(it).to_string())?;
             }
         }
         self.row(f, "decisions looked at", |(_, figures)| figures.decided.to_string())?;

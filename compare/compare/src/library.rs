@@ -1,6 +1,8 @@
 //! The library, asked through the program that calls it (`answer/answer.c`): the archive is for x86-64 alone, and a fault in it must
 //! not end the comparison.
+use crate::calls::next_eligible::list_to_read;
 use crate::calls::{Call, Handed};
+use crate::case::Case;
 use std::io::{self, Read, Write};
 use std::ops::Range;
 use std::process::{Child, ChildStdin, ChildStdout, Command, Stdio};
@@ -8,53 +10,89 @@ use std::process::{Child, ChildStdin, ChildStdout, Command, Stdio};
 const NAME: usize = 32;
 const MOST_ARGUMENTS: usize = 12;
 
-/// Bytes that nobody may write, on either side of a lent buffer.
+/// Bytes that nobody may write, before everything lent and so on either side of what may be written.
 const GUARD: usize = 24;
 
-/// What the program is lent in one piece: the buffer for the answer between its guards, policy, request, and the bank last, so that
-/// a step past its end is a fault.
+/// The order in which things stand in memory, as far as a call takes them: what may be written first, then what is read, so that a step
+/// past the end of a bank or a list that is read is a fault.
+const ORDER: [Handed; 6] = [Handed::Out, Handed::List, Handed::Policy, Handed::Request, Handed::Bank, Handed::Listed];
+
+/// What the program is lent in one piece, each part after a guard. Nothing follows the last.
 #[derive(Clone, PartialEq)]
 pub struct Memory {
     pub bytes: Vec<u8>,
-    pub out: Range<usize>,
-    policy: Range<usize>,
-    request: Range<usize>,
-    bank: Range<usize>,
+    lent: Vec<(Handed, Range<usize>)>,
 }
 
 impl Memory {
-    pub fn new(room: usize, policy: &[u8], request: &[u8], bank: &[u8]) -> Self {
-        // A pattern, so that bytes that stay as they were can be told from bytes written.
-        let mut bytes: Vec<u8> = (0..GUARD + room + GUARD).map(|at| (at * 29 + 165) as u8).collect();
-        let mut add = |part: &[u8]| {
-            bytes.extend_from_slice(part);
-            bytes.len() - part.len()..bytes.len()
-        };
-        let (policy, request, bank) = (add(policy), add(request), add(bank));
-        Memory { bytes, out: GUARD..GUARD + room, policy, request, bank }
+    pub fn new(call: &Call, case: &Case) -> Self {
+        let ask = case.ask((call.need)(case));
+        let mut memory = Memory { bytes: Vec::new(), lent: Vec::new() };
+        for handed in ORDER.into_iter().filter(|handed| call.takes.contains(handed)) {
+            memory.fill(GUARD);
+            let start = memory.bytes.len();
+            match handed {
+                Handed::Out => memory.fill(ask.room),
+                Handed::List => memory.fill(ask.list_room),
+                Handed::Policy => memory.bytes.extend(ask.policy),
+                Handed::Request => memory.bytes.extend(ask.request),
+                Handed::Bank => memory.bytes.extend(ask.bank),
+                Handed::Listed => memory.bytes.extend(list_to_read(&ask)),
+                Handed::Id | Handed::From => unreachable!("a number stands nowhere"),
+            }
+            memory.lent.push((handed, start..memory.bytes.len()));
+        }
+        memory
     }
 
-    pub fn out(&self) -> &[u8] {
-        &self.bytes[self.out.clone()]
+    /// A pattern, so that bytes that stay as they were can be told from bytes written.
+    fn fill(&mut self, bytes: usize) {
+        let start = self.bytes.len();
+        self.bytes.extend((start..start + bytes).map(|at| (at * 29 + 165) as u8));
+    }
+
+    fn range(&self, handed: Handed) -> Option<Range<usize>> {
+        self.lent.iter().find(|(lent, _)| *lent == handed).map(|(_, range)| range.clone())
+    }
+
+    /// The bytes of one thing, none where it isn't lent.
+    pub fn part(&self, handed: Handed) -> &[u8] {
+        self.range(handed).map_or(&[], |range| &self.bytes[range])
+    }
+
+    /// Writes to the start of one thing.
+    pub fn write(&mut self, handed: Handed, bytes: &[u8]) {
+        if bytes.is_empty() {
+            return;
+        }
+        let start = self.range(handed).expect("only what is lent is written").start;
+        self.bytes[start..start + bytes.len()].copy_from_slice(bytes);
+    }
+
+    /// Where a byte stands: its offset from the start of the last thing lent before it. Below 0 and past the end it is a guard's.
+    pub fn place(&self, at: usize) -> String {
+        let near = self.lent.iter().rev().find(|(_, range)| range.start <= at).or(self.lent.first());
+        near.map_or(at.to_string(), |(handed, range)| format!("{handed:?} {}", at as i64 - range.start as i64))
     }
 
     /// What one thing handed over is to the program: pairs of "is an offset into the memory" and a number.
-    fn arguments(&self, handed: &Handed, id: u32) -> Vec<(u64, u64)> {
-        let range = match handed {
-            Handed::Policy => &self.policy,
-            Handed::Request => &self.request,
-            Handed::Bank => &self.bank,
-            Handed::Out => &self.out,
+    fn arguments(&self, handed: Handed, case: &Case) -> Vec<(u64, u64)> {
+        match handed {
             // A u32 is the lower half of its register: what the upper half holds must not matter.
-            Handed::Id => return vec![(0, u64::from(id) | 0xa5a5_a5a5 << 32)],
-        };
-        vec![(1, range.start as u64), (0, range.len() as u64)]
+            Handed::Id => vec![(0, u64::from(case.id) | 0xa5a5_a5a5 << 32)],
+            Handed::From => vec![(0, case.from)],
+            _ => {
+                let range = self.range(handed).expect("lent, since it is taken");
+                vec![(1, range.start as u64), (0, range.len() as u64)]
+            }
+        }
     }
 
-    fn question(&self, call: &Call, id: u32) -> Vec<u8> {
+    fn question(&self, call: &Call, case: &Case) -> Vec<u8> {
         let mut question = call.name.as_bytes().to_vec();
         question.resize(NAME, 0);
-        let mut arguments: Vec<(u64, u64)> = call.takes.iter().flat_map(|handed| self.arguments(handed, id)).collect();
+        let mut arguments: Vec<(u64, u64)> =
+            call.takes.iter().flat_map(|handed| self.arguments(*handed, case)).collect();
         assert!(call.name.len() < NAME && arguments.len() <= MOST_ARGUMENTS);
         arguments.resize(MOST_ARGUMENTS, (0, 0));
         for (is_offset, number) in arguments {
@@ -86,12 +124,12 @@ impl Library {
     }
 
     /// The word and the memory after the call; or how the program ended, where it did.
-    pub fn ask(&mut self, call: &Call, id: u32, memory: &Memory) -> Result<(u64, Memory), String> {
+    pub fn ask(&mut self, call: &Call, case: &Case, memory: &Memory) -> Result<(u64, Memory), String> {
         let running = match self.running.take() {
             Some(running) => running,
             None => run(&self.command)?,
         };
-        match exchange(running, &memory.question(call, id), memory) {
+        match exchange(running, &memory.question(call, case), memory) {
             Ok((running, word, after)) => {
                 self.running = Some(running);
                 Ok((word, after))

@@ -1,5 +1,5 @@
 //! One case put to the library, and what it hands back and leaves in memory held against what it owes.
-use crate::calls::{word_of, Answer, Call};
+use crate::calls::{Answer, Call, Handed};
 use crate::case::{hex, Case};
 use crate::library::{Library, Memory};
 use crate::second::bytes::RECORD_BYTES;
@@ -12,26 +12,25 @@ pub struct Difference {
 
 /// What the library hands back, and every byte that it could reach, against what is owed.
 pub fn differs(library: &mut Library, call: &Call, case: &Case, owed: &Answer) -> Option<Difference> {
-    let before = Memory::new(case.room.bytes((call.need)(case)), &case.policy, &case.request, &case.bank);
-    let given = library.ask(call, case.id, &before);
+    let before = Memory::new(call, case);
+    let given = library.ask(call, case, &before);
+    // What is owed goes to the front of each thing lent and leaves the rest.
     let mut after = before;
-    // A refusal writes nothing; an answer goes to the front of its buffer and leaves the rest.
-    if let Ok(bytes) = owed {
-        let start = after.out.start;
-        after.bytes[start..start + bytes.len()].copy_from_slice(bytes);
-    }
-    let owed = (word_of(owed), after);
+    after.write(Handed::Out, &owed.out);
+    after.write(Handed::List, &owed.list);
+    after.write(Handed::Bank, &owed.bank);
+    let owed = (owed.word(), after);
     (given.as_ref() != Ok(&owed)).then_some(Difference { owed, given })
 }
 
 impl fmt::Display for Difference {
     fn fmt(&self, f: &mut fmt::Formatter<'_>) -> fmt::Result {
         let (word, owed) = &self.owed;
-        writeln!(f, "owed   {} out {}", told(*word), hex(owed.out()))?;
+        writeln!(f, "owed   {} out {}", told(*word), hex(owed.part(Handed::Out)))?;
         match &self.given {
             Err(ended) => write!(f, "given  {ended}"),
             Ok((word, given)) => {
-                write!(f, "given  {} out {}", told(*word), hex(given.out()))?;
+                write!(f, "given  {} out {}", told(*word), hex(given.part(Handed::Out)))?;
                 let changes = changes(owed, given);
                 match changes.is_empty() {
                     true => Ok(()),
@@ -42,11 +41,22 @@ impl fmt::Display for Difference {
     }
 }
 
-/// The bytes that differ, by their offset in the buffer: below 0 and past its end they are nobody's, or an input's.
+/// A list or a bank in disorder may differ in every byte.
+const MOST_SHOWN: usize = 200;
+
+/// The bytes that differ, by where they stand.
 fn changes(owed: &Memory, given: &Memory) -> Vec<String> {
     let pairs = owed.bytes.iter().zip(&given.bytes).enumerate().filter(|(_, (owed, given))| owed != given);
-    let offset = |at: usize| at as i64 - owed.out.start as i64;
-    pairs.map(|(at, (owed, given))| format!("{} is {given:02x}, not {owed:02x}", offset(at))).collect()
+    let mut shown: Vec<String> = pairs
+        .clone()
+        .take(MOST_SHOWN)
+        .map(|(at, (o, g))| format!("{} is {g:02x}, not {o:02x}", owed.place(at)))
+        .collect();
+    match pairs.count() - shown.len() {
+        0 => {}
+        more => shown.push(format!("and {more} more")),
+    }
+    shown
 }
 
 fn told(word: u64) -> String {

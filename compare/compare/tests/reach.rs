@@ -1,21 +1,39 @@
-//! The inputs reach every rule: each refusal of each call, each reason, each count, each key of the ranking, each extreme.
-use compare::calls::CALLS;
+//! The inputs reach every rule: each refusal of each call, each reason, each count, each key of the ranking, each extreme, each verdict,
+//! each lever.
+use compare::calls::{CALLS, EXPLAIN, MARGIN, NEXT, TRUST, WIN};
 use compare::case::Case;
-use compare::figures::{Figures, COUNTS, EXTREMES, KEYS};
-use compare::generate::{any_size, random_case, spaces};
+use compare::figures::{Figures, COUNTS, EXTREMES, KEYS, LEVERS, SEARCHED};
+use compare::generate::{Asked, DRAWS, SPACES};
 
-fn note(figures: &mut Figures, case: &Case) {
-    for (at, call) in CALLS.iter().enumerate() {
+fn note(figures: &mut Figures, asked: &Asked, case: &Case) {
+    for (at, call) in CALLS.iter().enumerate().filter(|(at, _)| asked.asks(*at, case)) {
         figures.note(at, case, &call.owed(case));
     }
 }
 
+/// The refusals of each call, in the order of `CALLS`; 2 takes a bank of 65,536 records and is reached by the small spaces alone.
+const REFUSED: [&[u8]; 11] = [
+    &[1, 4, 22],
+    &[1, 3, 4, 22],
+    &[1, 4, 7, 22],
+    &[1, 4],
+    &[3, 22],
+    &[1, 4, 22],
+    &[4],
+    &[1, 10, 11, 12, 13, 14, 15, 22],
+    &[1, 10, 11, 12, 13, 14, 15, 16, 17, 22],
+    &[1, 4, 5, 22],
+    &[1, 4, 6, 22],
+];
+
 fn assert_reached(figures: &Figures) {
-    let refused = [&[1, 4, 22][..], &[1, 3, 4, 22], &[1, 4, 7, 22], &[1, 4], &[3, 22]];
-    for (call, numbers) in refused.iter().enumerate() {
+    for (call, numbers) in REFUSED.iter().enumerate() {
         for number in *numbers {
             assert!(figures.refused.contains_key(&(call, *number)), "{} is refused {number}", CALLS[call].name);
         }
+        let others =
+            figures.refused.keys().filter(|(of, number)| *of == call && *number != 2 && !numbers.contains(number));
+        assert_eq!(others.count(), 0, "{} is refused with no other number", CALLS[call].name);
     }
     let reasons = [1, 2].into_iter().chain(100..=110).map(|reason| format!("reason {reason:3}"));
     let counts = COUNTS.iter().map(|count| format!("some rejected for {count}"));
@@ -24,20 +42,43 @@ fn assert_reached(figures: &Figures) {
     for what in reasons.chain(counts).chain(keys).chain(extremes) {
         assert!(figures.seen.get(&what).is_some_and(|times| *times > 10), "{what}");
     }
+    let gates = (1..=8).map(|gate| (EXPLAIN, format!("some with verdict 1, gate {gate}")));
+    let verdicts = (2..=4).map(|verdict| (EXPLAIN, format!("some with verdict {verdict}")));
+    let levers = LEVERS.iter().map(|lever| (WIN, format!("lever {lever}")));
+    let margins = LEVERS[..4].iter().map(|lever| (MARGIN, format!("lever {lever}")));
+    let others = [
+        (EXPLAIN, "no record"),
+        (NEXT, "none"),
+        (TRUST, "bank reordered"),
+        (TRUST, "bank reordered, though refused"),
+        (WIN, "1 pass, no search"),
+        (WIN, SEARCHED),
+        (MARGIN, SEARCHED),
+    ];
+    let others = others.map(|(call, what)| (call, what.to_string()));
+    for (call, what) in gates.chain(verdicts).chain(levers).chain(margins).chain(others) {
+        let times = figures.found.get(&(call, what.clone()));
+        assert!(times.is_some_and(|times| *times > 10), "{}: {what}", CALLS[call].name);
+    }
 }
 
 #[test]
 fn the_small_spaces_reach_everything() {
     let mut figures = Figures::default();
-    spaces::each(&mut |case| note(&mut figures, &case));
+    for space in &SPACES {
+        (space.each)(&mut |case| note(&mut figures, &space.asked, &case));
+    }
     assert_reached(&figures);
-    // Only banks of 65,536 records and more.
-    assert!((0..4).all(|call| figures.refused.contains_key(&(call, 2))));
+    // Only banks of 65,536 records and more; neither a request nor a list is a bank.
+    let banks = (0..CALLS.len()).filter(|call| REFUSED[*call].contains(&1));
+    assert!(banks.clone().count() == 9 && banks.into_iter().all(|call| figures.refused.contains_key(&(call, 2))));
 }
 
 #[test]
 fn random_cases_reach_everything() {
     let mut figures = Figures::default();
-    (0..20_000).for_each(|number| note(&mut figures, &random_case(7, number, any_size)));
+    for draws in &DRAWS {
+        (0..200 * draws.share).for_each(|number| note(&mut figures, &draws.asked, &(draws.case)(7, number)));
+    }
     assert_reached(&figures);
 }

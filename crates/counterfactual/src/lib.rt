@@ -1,6 +1,6 @@
 // What would have to change for a decision to come out differently: the Rust's counterfactual.rs. The two calls passed on here ask nothing
 // of their caller.
-mod answer;
+pub mod answer;
 mod levers;
 mod margin;
 mod win;

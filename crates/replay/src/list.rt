@@ -1,142 +1,26 @@
 // The list's entries, one after the other. Each begins with a byte that says what is asked: 1 prescribe, 2 prescribe checked, 3 the utility
-// of one model, 4 find, 5 the request check. Then come what is lent, the word that is owed, and the bytes that are owed.
-ghost use Prim.Native.Nat.{_+_, _≤_, _<_};
+// of one model, 4 find, 5 the request check, 6 explain, 7 the next eligible entry, 8 validate, 9 trust, 10 what would win, 11 the margin.
+// Then come what is lent, the word that is owed, and the bytes that are owed.
+use crate::above::explained;
+use crate::above::margin;
+use crate::above::next;
+use crate::above::trusted;
+use crate::above::validated;
+use crate::above::won;
+use crate::entry::Entry;
+use crate::entry::cut;
+use crate::kernel::checked;
+use crate::kernel::found;
+use crate::kernel::prescribed;
+use crate::kernel::utility;
+ghost use Prim.Native.Nat.{_≤_};
 ghost use lib.ListN.{length};
-use endian::u32_at;
-use endian::u64_at;
-
-// The bytes that each call writes.
-const DECISION: usize = 83;
-
-const UTILITY: usize = 8;
-
-const PLACE: usize = 2;
 
 // What was replayed: how many answers, how many of them differ, and how many bytes of the list are left over.
 pub(crate) struct Told {
     pub answers: u64,
     pub different: u64,
     pub left: usize,
-}
-
-// One entry: its size, 0 where the list is cut short or says no known kind, and whether the answer is the one that is owed.
-struct Entry {
-    size: usize,
-    same: bool,
-}
-
-fn cut() -> Entry
-    ensures { λ r. ⌜ r .size ≤ 0 ⌝ }
-{
-    Entry {
-        size: 0,
-        same: false,
-    }
-}
-
-// Whether the word and the bytes are those that stand at a place of the list.
-fn owed(list: &[u8], at: usize, word: u64, bytes: &[u8]) -> bool
-    requires { ⌜ at + 8 + length (now bytes) ≤ length (now list) ⌝ }
-{
-    let start = at + 8;
-    let end = start + bytes.len();
-    if u64_at(list, at) != word {
-        return false;
-    }
-    check::same(&list[start..end], bytes)
-}
-
-// Checked or not.
-fn ask(policy: &[u8], request: &[u8], bank: &[u8], checked: bool, out: &mut [u8]) -> u64 {
-    if checked {
-        return volankizo::volankizo_prescribe_checked(policy, request, bank, out);
-    }
-    volankizo::volankizo_prescribe(policy, request, bank, out)
-}
-
-// Kinds 1 and 2.
-fn prescribed(list: &[u8], checked: bool) -> Entry
-    ensures { λ r. ⌜ r .size ≤ length (now (list .entry)) ⌝ }
-{
-    if list.len() < 105 {
-        return cut();
-    }
-    let bytes = u32_at(list, 101) as usize;
-    let at = 105 + bytes;
-    let size = at + 8 + DECISION;
-    if list.len() < size {
-        return cut();
-    }
-    let mut out = [0u8; 83];
-    let word = ask(
-        &list[1..31],
-        &list[31..101],
-        &list[105..at],
-        checked,
-        &mut out,
-    );
-    let same = owed(list, at, word, &out);
-    Entry { size, same }
-}
-
-// Kind 3.
-fn utility(list: &[u8]) -> Entry
-    ensures { λ r. ⌜ r .size ≤ length (now (list .entry)) ⌝ }
-{
-    if list.len() < 109 {
-        return cut();
-    }
-    let id = u32_at(list, 101);
-    let bytes = u32_at(list, 105) as usize;
-    let at = 109 + bytes;
-    let size = at + 8 + UTILITY;
-    if list.len() < size {
-        return cut();
-    }
-    let mut out = [0u8; 8];
-    let word = volankizo::volankizo_utility_for_model(
-        &list[1..31],
-        &list[31..101],
-        &list[109..at],
-        id,
-        &mut out,
-    );
-    let same = owed(list, at, word, &out);
-    Entry { size, same }
-}
-
-// Kind 4.
-fn found(list: &[u8]) -> Entry
-    ensures { λ r. ⌜ r .size ≤ length (now (list .entry)) ⌝ }
-{
-    if list.len() < 9 {
-        return cut();
-    }
-    let id = u32_at(list, 1);
-    let bytes = u32_at(list, 5) as usize;
-    let at = 9 + bytes;
-    let size = at + 8 + PLACE;
-    if list.len() < size {
-        return cut();
-    }
-    let mut out = [0u8; 2];
-    let word = volankizo::volankizo_find(&list[9..at], id, &mut out);
-    let same = owed(list, at, word, &out);
-    Entry { size, same }
-}
-
-// Kind 5.
-fn checked(list: &[u8]) -> Entry
-    ensures { λ r. ⌜ r .size ≤ length (now (list .entry)) ⌝ }
-{
-    if list.len() < 79 {
-        return cut();
-    }
-    let word = volankizo::volankizo_check_request(&list[1..71]);
-    Entry {
-        size: 79,
-        same: u64_at(list, 71) == word,
-    }
 }
 
 // The first entry of what is left of the list.
@@ -153,6 +37,12 @@ fn first(list: &[u8]) -> Entry
         3 => utility(list),
         4 => found(list),
         5 => checked(list),
+        6 => explained(list),
+        7 => next(list),
+        8 => validated(list),
+        9 => trusted(list),
+        10 => won(list),
+        11 => margin(list),
         _ => cut(),
     }
 }

@@ -1,12 +1,15 @@
 // Replays a fixed list of questions with the answers that are owed, and tells how many there are and how many differ. The list is standard
 // input; compare/cases made it from the Rust. No Rust is needed here.
+mod above;
+mod entry;
+mod kernel;
 mod list;
 
 use libc::STDIN_FILENO;
 use libc::STDOUT_FILENO;
 
 fn main() {
-    let mut space = [0u8; 262_144];
+    let mut space = [0u8; 409_600];
     let n = io::read_full(STDIN_FILENO, &mut space);
     let told = list::replayed(&space[..n]);
     io::print_decimal(STDOUT_FILENO, told.answers);

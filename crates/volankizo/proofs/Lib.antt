@@ -1,8 +1,2 @@
--- Laws on faults and buffers that the proofs of the exported functions cite.
-pub mod Openings
-pub mod Places
-pub mod Handed
-pub mod Words
-pub mod Copies
-pub mod Layouts
+-- That any two permitted answers are equal.
 pub mod Answers

@@ -1,10 +1,10 @@
-//! `compare [--seed N] [--count N] [--from N] -- PROGRAM [WORD..]`: every call on every case of the small spaces and on `count` random
-//! cases, the library against the Rust and the second reading. PROGRAM calls the library (`answer/answer.c`), with the emulator before
-//! it where one is needed. Ends with 1 at the first difference.
-use compare::calls::{Call, CALLS};
+//! `compare [--seed N] [--count N] [--from N] -- PROGRAM [WORD..]`: every call on the cases of the small spaces and on `count` random
+//! ones, and each group of calls on a quarter as many of its own; the library against the Rust and the second reading. PROGRAM calls
+//! the library (`answer/answer.c`), with the emulator before it where one is needed. Ends with 1 at the first difference.
+use compare::calls::{Call, CALLS, MARGIN, WIN};
 use compare::case::Case;
-use compare::figures::{Figures, Table};
-use compare::generate::{any_size, random_case, spaces};
+use compare::figures::{Figures, Table, SEARCHED};
+use compare::generate::{Asked, DRAWS, SPACES};
 use compare::library::Library;
 use compare::second::bytes::{models_of, policy_of, request_of, POLICY_BYTES, RECORD_BYTES, REQUEST_BYTES};
 use compare::versus::{differs, reduced, Difference};
@@ -37,7 +37,9 @@ fn main() {
     print!("{}", Table(&[("small spaces", &small), ("random", &random)]));
     let asked = small.asked.iter().zip(random.asked).map(|(small, random)| small + random);
     let asked: Vec<String> = CALLS.iter().zip(asked).map(|(call, cases)| format!("{} {cases}", call.name)).collect();
-    println!("{}: 0 differences", asked.join(", "));
+    let searches = |call: usize, of: &Figures| of.found.get(&(call, SEARCHED.into())).copied().unwrap_or(0);
+    let searched: u64 = [WIN, MARGIN].iter().map(|call| searches(*call, &small) + searches(*call, &random)).sum();
+    println!("{}; {searched} searches of more than 2 passes: 0 differences", asked.join(", "));
 }
 
 fn wanted() -> Result<Wanted, String> {
@@ -69,32 +71,39 @@ fn wanted() -> Result<Wanted, String> {
 
 fn small_spaces(library: &mut Library) -> Figures {
     let mut figures = Figures::default();
-    let mut cases = 0;
-    spaces::each(&mut |case| {
-        ask_every_call(library, &mut figures, &case, &format!("case {cases} of the small spaces"));
-        cases += 1;
-    });
-    println!("small spaces: {cases} cases, 0 differences");
+    for space in &SPACES {
+        let mut cases = 0;
+        (space.each)(&mut |case| {
+            let name = format!("case {cases} of the small spaces, {}", space.name);
+            ask(library, &mut figures, &space.asked, &case, &name);
+            cases += 1;
+        });
+        println!("small spaces, {}: {cases} cases, 0 differences", space.name);
+    }
     figures
 }
 
 fn random_cases(library: &mut Library, wanted: &Wanted) -> Figures {
     let mut figures = Figures::default();
-    let step = wanted.count.div_ceil(10);
-    for done in 1..=wanted.count {
-        let number = wanted.from + done - 1;
-        let case = random_case(wanted.seed, number, any_size);
-        ask_every_call(library, &mut figures, &case, &format!("random case {number} of seed {}", wanted.seed));
-        if done % step == 0 || done == wanted.count {
-            println!("random: {done} of {} cases, 0 differences", wanted.count);
+    for draws in &DRAWS {
+        let count = (wanted.count * draws.share).div_ceil(100);
+        let step = count.div_ceil(10);
+        for done in 1..=count {
+            let number = wanted.from + done - 1;
+            let case = (draws.case)(wanted.seed, number);
+            let name = format!("{} case {number} of seed {}", draws.name, wanted.seed);
+            ask(library, &mut figures, &draws.asked, &case, &name);
+            if done % step == 0 || done == count {
+                println!("{}: {done} of {count} cases, 0 differences", draws.name);
+            }
         }
     }
     figures
 }
 
-/// Notes what is owed, and ends the run at a difference.
-fn ask_every_call(library: &mut Library, figures: &mut Figures, case: &Case, name: &str) {
-    for (at, call) in CALLS.iter().enumerate() {
+/// Asks the calls of a set, notes what is owed, and ends the run at a difference.
+fn ask(library: &mut Library, figures: &mut Figures, asked: &Asked, case: &Case, name: &str) {
+    for (at, call) in CALLS.iter().enumerate().filter(|(at, _)| asked.asks(*at, case)) {
         let owed = call.owed(case);
         figures.note(at, case, &owed);
         if let Some(difference) = differs(library, call, case, &owed) {

@@ -1,14 +1,11 @@
 //! `check_request`: the test of the request's limits alone. It writes nothing.
-use super::{Answer, Call, Handed};
-use crate::case::{Ask, Case};
+use super::{nothing, Answer, Call, Handed};
+use crate::case::Ask;
 use crate::second::bytes::request_of;
 use crate::second::refusals::{self, Passed};
 
-pub const CALL: Call = Call { name: "check_request", takes: &[Handed::Request], need, second, rust };
-
-fn need(_: &Case) -> usize {
-    0
-}
+pub const CALL: Call =
+    Call { name: "check_request", takes: &[Handed::Request], many_passes: false, need: nothing, second, rust };
 
 /// 22; then 3, which the Rust tells.
 fn second(ask: &Ask) -> Passed {
@@ -17,7 +14,7 @@ fn second(ask: &Ask) -> Passed {
 
 fn rust(ask: &Ask) -> Answer {
     match request_of(ask.request).validate() {
-        Ok(()) => Ok(Vec::new()),
-        Err(error) => Err(refusals::request_limit(&error)),
+        Ok(()) => Answer::default(),
+        Err(error) => refusals::request_limit(&error).into(),
     }
 }

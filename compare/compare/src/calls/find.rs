@@ -4,7 +4,8 @@ use crate::case::{Ask, Case};
 use crate::second::bytes::{first_listed, PLACE_BYTES};
 use crate::second::refusals::{self, Passed};
 
-pub const CALL: Call = Call { name: "find", takes: &[Handed::Bank, Handed::Id, Handed::Out], need, second, rust };
+pub const CALL: Call =
+    Call { name: "find", takes: &[Handed::Bank, Handed::Id, Handed::Out], many_passes: false, need, second, rust };
 
 fn need(_: &Case) -> usize {
     PLACE_BYTES
@@ -18,5 +19,5 @@ fn second(ask: &Ask) -> Passed {
 
 /// The Rust has no call for this, and takes the first listed record wherever it looks an id up; the place is the second reading's.
 fn rust(ask: &Ask) -> Answer {
-    Ok(first_listed(ask.bank, ask.id).to_le_bytes().to_vec())
+    Answer::of(first_listed(ask.bank, ask.id).to_le_bytes().to_vec())
 }

@@ -2,13 +2,14 @@
 use super::prescribe::{need, second};
 use super::{snapshot, Answer, Call, Handed};
 use crate::case::Ask;
-use crate::second::bytes::{decision_bytes, request_of};
+use crate::second::bytes::{request_of, traced_bytes};
 use crate::second::refusals;
 
 /// 22, 1, 2, 4 as in `prescribe`; then 3, which the Rust tells.
 pub const CALL: Call = Call {
     name: "prescribe_checked",
     takes: &[Handed::Policy, Handed::Request, Handed::Bank, Handed::Out],
+    many_passes: false,
     need,
     second,
     rust,
@@ -16,7 +17,7 @@ pub const CALL: Call = Call {
 
 fn rust(ask: &Ask) -> Answer {
     match snapshot(ask).prescribe_with_trace_checked(request_of(ask.request)) {
-        Ok((decision, trace)) => Ok(decision_bytes(&decision, &trace.rejections)),
-        Err(error) => Err(refusals::request_limit(&error)),
+        Ok((decision, trace)) => Answer::of(traced_bytes(&decision, &trace.rejections)),
+        Err(error) => refusals::request_limit(&error).into(),
     }
 }

@@ -7,6 +7,7 @@ use crate::second::refusals::{self, Passed, Refusal};
 pub const CALL: Call = Call {
     name: "utility_for_model",
     takes: &[Handed::Policy, Handed::Request, Handed::Bank, Handed::Id, Handed::Out],
+    many_passes: false,
     need,
     second,
     rust,
@@ -25,7 +26,7 @@ fn second(ask: &Ask) -> Passed {
 
 fn rust(ask: &Ask) -> Answer {
     match snapshot(ask).utility_for_model(request_of(ask.request), ask.id) {
-        Some(utility) => Ok(utility.to_le_bytes().to_vec()),
-        None => Err(Refusal::of(refusals::NO_UTILITY)),
+        Some(utility) => Answer::of(utility.to_le_bytes().to_vec()),
+        None => Refusal::of(refusals::NO_UTILITY).into(),
     }
 }

@@ -1,16 +1,76 @@
 //! The inputs: small spaces in full (`spaces`), then random ones, each a plausible setting (`base`) with a few fields moved to an
-//! edge of their range (`edges`) or to a limit that decides something (`aimed`).
+//! edge of their range (`edges`) or to a limit that decides something (`aimed`). Explanations, catalogues and searches have spaces and
+//! random cases of their own (`lists`, `catalogues`, `searches`).
 pub mod aimed;
 pub mod base;
+pub mod catalogues;
 pub mod court;
 pub mod edges;
+pub mod example;
+pub mod large;
+pub mod lists;
 pub mod random;
+pub mod searches;
 pub mod spaces;
 
-use crate::case::{Case, Room};
-use crate::second::bytes::{bank_bytes, policy_bytes, request_bytes, Policy};
+use crate::calls::{CALLS, EXPLAIN, MARGIN, NEXT, TRUST, VALIDATE, WIN};
+use crate::case::{Case, Listed, Room};
+use crate::second::bytes::{bank_bytes, policy_bytes, request_bytes, Policy, RECORD_BYTES};
 use oracle::kernel::{KernelInput, KernelModel, PolicySnapshot};
 use random::Random;
+
+/// Takes the cases one by one, since the largest of them shouldn't all be held at once.
+pub type Visit<'a> = &'a mut dyn FnMut(Case);
+
+/// The calls that are asked on the cases of a set.
+pub enum Asked {
+    Every,
+    These(&'static [usize]),
+}
+
+/// Cases in full.
+pub struct Space {
+    pub name: &'static str,
+    pub asked: Asked,
+    pub each: fn(Visit),
+}
+
+/// Random cases by seed and number, `share` for each hundred of the number wanted.
+pub struct Draws {
+    pub name: &'static str,
+    pub asked: Asked,
+    pub share: u64,
+    pub case: fn(u64, u64) -> Case,
+}
+
+pub const SPACES: [Space; 6] = [
+    Space { name: "decisions", asked: Asked::Every, each: spaces::each },
+    Space { name: "lists", asked: Asked::These(&[EXPLAIN, NEXT]), each: lists::each },
+    Space { name: "catalogues", asked: Asked::These(&[VALIDATE, TRUST]), each: catalogues::each },
+    Space { name: "a falling catalogue", asked: Asked::These(&[VALIDATE]), each: catalogues::falling },
+    Space { name: "turned catalogues", asked: Asked::These(&[TRUST]), each: catalogues::turned },
+    Space { name: "searches", asked: Asked::These(&[WIN, MARGIN]), each: searches::each },
+];
+
+pub const DRAWS: [Draws; 4] = [
+    Draws { name: "random", asked: Asked::Every, share: 100, case: any_case },
+    Draws { name: "random lists", asked: Asked::These(&[EXPLAIN, NEXT]), share: 25, case: lists::random },
+    Draws { name: "random catalogues", asked: Asked::These(&[VALIDATE, TRUST]), share: 25, case: catalogues::random },
+    Draws { name: "random searches", asked: Asked::These(&[WIN, MARGIN]), share: 25, case: searches::random },
+];
+
+/// Where every call is asked, those of many passes are asked up to the unit's 900 records; sets of their own have larger banks.
+const MANY_PASSES: usize = 900 * RECORD_BYTES;
+
+impl Asked {
+    /// Whether a call is asked on a case of this set.
+    pub fn asks(&self, call: usize, case: &Case) -> bool {
+        match self {
+            Asked::Every => !CALLS[call].many_passes || case.bank.len() <= MANY_PASSES,
+            Asked::These(calls) => calls.contains(&call),
+        }
+    }
+}
 
 /// A policy, a request and models, before they are bytes.
 #[derive(Clone)]
@@ -33,6 +93,9 @@ impl Setting {
             bank: bank_bytes(&self.models),
             id,
             room: Room::Exact,
+            list_room: Room::Exact,
+            listed: Listed::Explained,
+            from: 0,
         }
     }
 
@@ -50,7 +113,13 @@ pub fn random_case(seed: u64, number: u64, size: fn(&mut Random) -> usize) -> Ca
     let mut case = setting.case(id_to_ask_for(&mut r, &setting));
     case.room = room(&mut r);
     damage(&mut r, &mut case);
+    case.list_room = lists::room(&mut r);
+    case.from = lists::from(&mut r, setting.models.len() as u64);
     case
+}
+
+fn any_case(seed: u64, number: u64) -> Case {
+    random_case(seed, number, any_size)
 }
 
 pub fn random_setting(r: &mut Random, records: usize) -> Setting {

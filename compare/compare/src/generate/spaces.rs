@@ -2,13 +2,9 @@
 use super::court::{court, good, over, rejected, REASONS};
 use super::edges::VALUES;
 use super::random::Random;
-use super::{base, Setting};
+use super::{large, Setting, Visit};
 use crate::case::{Case, Room};
-use crate::second::bytes::RECORD_BYTES;
 use oracle::kernel::{KernelModel, ALL_PROVIDERS};
-
-/// Takes the cases one by one, since the largest of them shouldn't all be held at once.
-pub type Visit<'a> = &'a mut dyn FnMut(Case);
 
 /// Every space, the largest banks last.
 pub fn each(visit: Visit) {
@@ -23,7 +19,7 @@ pub fn each(visit: Visit) {
     terms(visit);
     request_limits(visit);
     refusals(visit);
-    large(visit);
+    large::each(visit);
 }
 
 /// One record: each of the eight gates failing or not, each way of being priced, each stop.
@@ -79,11 +75,11 @@ fn stops(visit: Visit) {
     }
 }
 
-fn around(number: u16) -> [u16; 3] {
+pub fn around(number: u16) -> [u16; 3] {
     [number.saturating_sub(1), number, number.saturating_add(1)]
 }
 
-fn pairs<A: Copy, B: Copy>(first: &[A], second: &[B]) -> Vec<(A, B)> {
+pub fn pairs<A: Copy, B: Copy>(first: &[A], second: &[B]) -> Vec<(A, B)> {
     first.iter().flat_map(|a| second.iter().map(|b| (*a, *b))).collect()
 }
 
@@ -268,39 +264,4 @@ fn refusals(visit: Visit) {
             visit(case);
         }
     }
-}
-
-/// Banks of 65,535 records and more.
-fn large(visit: Visit) {
-    const MOST: usize = 65_535;
-    for reason in 0..REASONS {
-        visit(large_case(vec![rejected(reason); MOST]));
-    }
-    visit(large_case(vec![good(); MOST]));
-    visit(falling(vec![good(); MOST]));
-    visit(large_case(vec![good(); MOST + 1]));
-    for length in [(MOST + 1) * RECORD_BYTES - 1, (MOST + 1) * RECORD_BYTES + 1, MOST * RECORD_BYTES + 1] {
-        let mut case = large_case(vec![good(); MOST + 2]);
-        case.bank.truncate(length);
-        visit(case.clone());
-        case.room = Room::ShortBy(1);
-        visit(case);
-    }
-    let mut r = Random::new(65_535);
-    for records in [MOST, MOST, MOST, MOST, MOST + 1] {
-        visit(base::setting(&mut r, records).case(records as u32));
-    }
-}
-
-/// The last id is looked for, so that the whole bank is passed over.
-fn large_case(models: Vec<KernelModel>) -> Case {
-    let last = models.len() as u32;
-    over(models).case(last)
-}
-
-/// Ids that fall: each record is better than the one before, and the last one is chosen.
-fn falling(models: Vec<KernelModel>) -> Case {
-    let mut setting = over(models);
-    setting.models.reverse();
-    setting.case(1)
 }

@@ -4,8 +4,9 @@ use oracle::kernel::{KernelDecision, KernelInput, KernelModel, PolicySnapshot, R
 pub const POLICY_BYTES: usize = 30;
 pub const REQUEST_BYTES: usize = 70;
 pub const RECORD_BYTES: usize = 47;
-/// A decision's 65 bytes and its nine counts.
-pub const DECISION_BYTES: usize = 83;
+pub const DECISION_BYTES: usize = 65;
+/// A decision and its nine counts.
+pub const TRACED_BYTES: usize = 83;
 pub const UTILITY_BYTES: usize = 8;
 pub const PLACE_BYTES: usize = 2;
 /// The place of an id that is nowhere.
@@ -173,8 +174,8 @@ pub fn bank_bytes(models: &[KernelModel]) -> Vec<u8> {
     out
 }
 
-pub fn decision_bytes(d: &KernelDecision, counts: &RejectionHistogram) -> Vec<u8> {
-    let mut out = [
+pub fn decision_bytes(d: &KernelDecision) -> Vec<u8> {
+    [
         &d.request_sequence.to_le_bytes()[..],
         &[d.action as u8],
         &(d.reason as u16).to_le_bytes(),
@@ -189,9 +190,12 @@ pub fn decision_bytes(d: &KernelDecision, counts: &RejectionHistogram) -> Vec<u8
         &d.policy_epoch.to_le_bytes(),
         &d.catalog_epoch.to_le_bytes(),
     ]
-    .concat();
-    out.extend(counts_in_order(counts).iter().flat_map(|n| n.to_le_bytes()));
-    out
+    .concat()
+}
+
+pub fn traced_bytes(d: &KernelDecision, counts: &RejectionHistogram) -> Vec<u8> {
+    let counts = counts_in_order(counts).into_iter().flat_map(u16::to_le_bytes);
+    decision_bytes(d).into_iter().chain(counts).collect()
 }
 
 /// The nine counts as they are held and printed. Neither the gates' order nor the order of equal counts is this one.

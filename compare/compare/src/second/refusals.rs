@@ -6,6 +6,8 @@ pub const BANK_LENGTH: u8 = 1;
 pub const TOO_MANY_RECORDS: u8 = 2;
 pub const REQUEST_LIMIT: u8 = 3;
 pub const NO_ROOM: u8 = 4;
+pub const NOT_LISTED: u8 = 5;
+pub const REJECTION: u8 = 6;
 pub const NO_UTILITY: u8 = 7;
 pub const FIELD_LENGTH: u8 = 22;
 
@@ -49,9 +51,14 @@ pub fn request_length(request: &[u8]) -> Passed {
     unless(request.len() != REQUEST_BYTES, FIELD_LENGTH)
 }
 
+/// 22, for a policy that isn't 30 bytes.
+pub fn policy_length(policy: &[u8]) -> Passed {
+    unless(policy.len() != POLICY_BYTES, FIELD_LENGTH)
+}
+
 /// 22, for either of the two.
 pub fn field_lengths(policy: &[u8], request: &[u8]) -> Passed {
-    unless(policy.len() != POLICY_BYTES, FIELD_LENGTH)?;
+    policy_length(policy)?;
     request_length(request)
 }
 

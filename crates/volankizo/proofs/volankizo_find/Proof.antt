@@ -4,10 +4,11 @@ use lib.ListN.{length}
 use denote.Ref.{now}
 use borrow.Author.Needs.{needs}
 use Rattle.rules.specs.Numbers.{toldFound}
-use Rattle.volankizo.specs.Boundary.{findFaults, placeIn, placeBytes}
-use Rattle.volankizo.proofs.Openings.{lent-room}
-use Rattle.volankizo.proofs.Places.{lent-placeless}
-use Rattle.volankizo.proofs.Handed.{Told, refused-place, refused-word, refused-list, answered-none, answered-word, answered-list, filled-patch}
+use Rattle.splice.proofs.Pieces.{patched-start}
+use Rattle.boundary.specs.Boundary.{findFaults, placeIn, placeBytes}
+use Rattle.boundary.proofs.Openings.{lent-room}
+use Rattle.boundary.proofs.Places.{lent-placeless}
+use Rattle.boundary.proofs.Handed.{Told, refused-place, refused-word, refused-list, answered-none, answered-word, answered-list}
 use Rattle.volankizo.proofs.volankizo_find.Statement.{statement}
 use Rattle.volankizo.proofs.volankizo_find.Tie as tie
 
@@ -45,7 +46,7 @@ returns-2 c =
     let at = put .before .before .before in
     let k = told (at .before .before) in
     let e = ap toldFound (at .place .given .1) in
-    (answered-word k e, answered-list k placeBytes _ e (put .put16 .ensures ∙ filled-patch _ _))
+    (answered-word k e, answered-list k placeBytes _ e (put .put16 .ensures ∙ patched-start _ _))
 
 returns-3 : tie.Need-returns-3
 returns-3 c =
@@ -53,7 +54,7 @@ returns-3 c =
     let at = put .before .before in
     let k = told (at .before .before) in
     let e = ap toldFound (at .enum-told .given .1) in
-    (answered-word k e, answered-list k placeBytes _ e (put .put162 .ensures ∙ filled-patch _ _))
+    (answered-word k e, answered-list k placeBytes _ e (put .put162 .ensures ∙ patched-start _ _))
 
 pub volankizo-find-spec : {M : Type 1} → statement M
 volankizo-find-spec =

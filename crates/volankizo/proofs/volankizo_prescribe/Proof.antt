@@ -1,14 +1,16 @@
 -- `volankizo::volankizo_prescribe` meets its contract. Assumes nothing.
-use mathlib.Core.Path.{ap}
+use mathlib.Core.Path.{ap, _∙_}
 use native.Mathlib.Omega.{arith}
 use lib.ListN.{length}
 use denote.Ref.{now}
 use borrow.Author.Needs.{needs}
 use Rattle.rules.specs.Numbers.{toldTraced}
-use Rattle.volankizo.specs.Boundary.{prescribed, prescribeFaults, decisionBytes}
-use Rattle.volankizo.proofs.Openings.{opening-room}
-use Rattle.volankizo.proofs.Places.{opening-placeless}
-use Rattle.volankizo.proofs.Handed.{Told, refused-place, refused-word, refused-list, answered-none, answered-word, answered-list}
+use Rattle.splice.proofs.Pieces.{patched-start}
+use Rattle.layout.specs.Layout.{decisionBytes}
+use Rattle.boundary.specs.Boundary.{prescribed, prescribeFaults}
+use Rattle.boundary.proofs.Openings.{opening-room}
+use Rattle.boundary.proofs.Places.{opening-placeless}
+use Rattle.boundary.proofs.Handed.{Told, refused-place, refused-word, refused-list, answered-none, answered-word, answered-list}
 use Rattle.volankizo.proofs.volankizo_prescribe.Statement.{statement}
 use Rattle.volankizo.proofs.volankizo_prescribe.Tie as tie
 
@@ -21,8 +23,8 @@ refusal-word-requires c κs =
     let a = f .before .before .before .before .before .args in
     refused-place (told f) (ap toldTraced (c .before .refusal .given .1)) (opening-placeless (now (a .policy)) (now (a .request)) (now (a .bank)) 83 (length (now (a .out))))
 
-fill-requires : tie.Need-fill-requires
-fill-requires c κs =
+put-bytes-requires : tie.Need-put-bytes-requires
+put-bytes-requires c κs =
     let at = c .before .before .before .before in
     let f = at .before .before in
     let a = f .before .before .before .before .before .args in
@@ -43,7 +45,7 @@ returns-2 c =
     let at = bytes .before .before in
     let k = told (at .before .before) in
     let e = ap toldTraced (at .decision .given .1) in
-    (answered-word k e, answered-list k decisionBytes _ e (rw (bytes .decision-bytes .ensures) at (f .fill .ensures)))
+    (answered-word k e, answered-list k decisionBytes _ e (rw (bytes .decision-bytes .ensures) at (f .put-bytes .ensures) ∙ patched-start _ _))
 
 pub volankizo-prescribe-spec : {M : Type 1} → statement M
 volankizo-prescribe-spec =
@@ -55,7 +57,7 @@ volankizo-prescribe-spec =
     (λ c. search needs)
     (λ c κs. search needs)
     (λ c. search needs)
-    fill-requires
+    put-bytes-requires
     returns
     (λ c. search needs)
     returns-2)

@@ -1,5 +1,5 @@
 -- `volankizo::volankizo_prescribe_checked` meets its contract. Assumes nothing.
-use mathlib.Core.Path.{ap}
+use mathlib.Core.Path.{ap, _∙_}
 use native.Mathlib.Omega.{arith}
 use lib.ListN.{length}
 use denote.Ref.{now}
@@ -7,10 +7,12 @@ use borrow.Author.Needs.{needs}
 use Rattle.rules.specs.Records.{inputOf}
 use Rattle.rules.specs.Decide.{requestFaults}
 use Rattle.rules.specs.Numbers.{toldTraced}
-use Rattle.volankizo.specs.Boundary.{prescribeFaults, prescribed, prescribeCheckedFaults, decisionBytes}
-use Rattle.volankizo.proofs.Openings.{none-first, opening-room}
-use Rattle.volankizo.proofs.Places.{checked-placeless}
-use Rattle.volankizo.proofs.Handed.{Told, refused-place, refused-word, refused-list, answered-none, answered-word, answered-list}
+use Rattle.splice.proofs.Pieces.{patched-start}
+use Rattle.layout.specs.Layout.{decisionBytes}
+use Rattle.boundary.specs.Boundary.{prescribeFaults, prescribed, prescribeCheckedFaults}
+use Rattle.boundary.proofs.Openings.{none-first, opening-room}
+use Rattle.boundary.proofs.Places.{checked-placeless}
+use Rattle.boundary.proofs.Handed.{Told, refused-place, refused-word, refused-list, answered-none, answered-word, answered-list}
 use Rattle.volankizo.proofs.volankizo_prescribe_checked.Statement.{statement}
 use Rattle.volankizo.proofs.volankizo_prescribe_checked.Tie as tie
 
@@ -23,8 +25,8 @@ refusal-word-requires c κs =
     let a = f .before .before .before .before .before .args in
     refused-place (told f) (ap toldTraced (c .before .refusal .given .1)) (checked-placeless (now (a .policy)) (now (a .request)) (now (a .bank)) (length (now (a .out))))
 
-fill-requires : tie.Need-fill-requires
-fill-requires c κs =
+put-bytes-requires : tie.Need-put-bytes-requires
+put-bytes-requires c κs =
     let at = c .before .before .before .before in
     let f = at .before .before in
     let a = f .before .before .before .before .before .args in
@@ -46,7 +48,7 @@ returns-2 c =
     let at = bytes .before .before in
     let k = told (at .before .before) in
     let e = ap toldTraced (at .decision .given .1) in
-    (answered-word k e, answered-list k decisionBytes _ e (rw (bytes .decision-bytes .ensures) at (f .fill .ensures)))
+    (answered-word k e, answered-list k decisionBytes _ e (rw (bytes .decision-bytes .ensures) at (f .put-bytes .ensures) ∙ patched-start _ _))
 
 pub volankizo-prescribe-checked-spec : {M : Type 1} → statement M
 volankizo-prescribe-checked-spec =
@@ -58,7 +60,7 @@ volankizo-prescribe-checked-spec =
     (λ c. search needs)
     (λ c κs. search needs)
     (λ c. search needs)
-    fill-requires
+    put-bytes-requires
     returns
     (λ c. search needs)
     returns-2)

@@ -7,10 +7,11 @@ use mir.Val.{ofZ}
 use mir.ValLaws.{toZ-ofZ}
 use borrow.Author.Needs.{needs}
 use Rattle.rules.specs.Numbers.{toldUtility}
-use Rattle.volankizo.specs.Boundary.{openingFaults, faultsIn, utilityFaults, utilityFrom, utilityOf, utilityBytes}
-use Rattle.volankizo.proofs.Openings.{none-first, opening-room}
-use Rattle.volankizo.proofs.Places.{utility-placeless}
-use Rattle.volankizo.proofs.Handed.{Told, refused-place, refused-word, refused-list, answered-none, answered-word, answered-list, filled-patch}
+use Rattle.splice.proofs.Pieces.{patched-start}
+use Rattle.boundary.specs.Boundary.{openingFaults, faultsIn, utilityFaults, utilityFrom, utilityOf, utilityBytes}
+use Rattle.boundary.proofs.Openings.{none-first, opening-room}
+use Rattle.boundary.proofs.Places.{utility-placeless}
+use Rattle.boundary.proofs.Handed.{Told, refused-place, refused-word, refused-list, answered-none, answered-word, answered-list}
 use Rattle.volankizo.proofs.volankizo_utility_for_model.Statement.{statement}
 use Rattle.volankizo.proofs.volankizo_utility_for_model.Tie as tie
 
@@ -49,7 +50,7 @@ returns-2 c =
     let at = put .before .before .before .before in
     let k = told (at .before .before) in
     let e = ap toldUtility (at .utility .given .1) in
-    (answered-word k e, answered-list k utilityBytes _ e (rw (value (put .before)) at (put .put64 .ensures) ∙ filled-patch _ _))
+    (answered-word k e, answered-list k utilityBytes _ e (rw (value (put .before)) at (put .put64 .ensures) ∙ patched-start _ _))
 
 pub volankizo-utility-for-model-spec : {M : Type 1} → statement M
 volankizo-utility-for-model-spec =

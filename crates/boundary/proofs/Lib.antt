@@ -1,0 +1,7 @@
+-- Laws on faults, words and buffers that the proofs of the exported functions cite.
+pub mod Openings
+pub mod Places
+pub mod Catalogs
+pub mod Bounds
+pub mod Handed
+pub mod Words

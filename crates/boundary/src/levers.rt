@@ -1,0 +1,35 @@
+// The boundary calls, behind the tests of lengths and room.
+use crate::opening::opening_outcome;
+use bank::input_of;
+use bank::policy_of;
+use counterfactual::answer::refused;
+use counterfactual::decision_margin;
+use counterfactual::what_would_win;
+use layout::boundaries::BOUNDARY_BYTES;
+use rules::Boundaries;
+use rules::Outcome;
+ghost use mathlib.Core.Path.{_≡_};
+ghost use Rattle.rules.specs.Numbers.{answered, unless};
+ghost use Rattle.boundary.specs.Boundary.{toldBounds, winFaults, winOf, marginFaults, marginOf};
+
+// The levers that would make a model selected. Refused: 22, 1, 2, 4, 5.
+pub fn win_within(policy: &[u8], request: &[u8], bank: &[u8], id: u32, room: usize) -> Boundaries
+    ensures { λ r. ⌜ toldBounds r ≡ unless (winFaults (now (policy .entry)) (now (request .entry)) (now (bank .entry)) id room) (answered (winOf (now (policy .entry)) (now (request .entry)) (now (bank .entry)) id)) ⌝ }
+{
+    let outcome = opening_outcome(policy, request, bank, BOUNDARY_BYTES, room);
+    if let Outcome::Refused(refusal) = outcome {
+        return refused(refusal);
+    }
+    what_would_win(policy_of(policy), bank, input_of(request), id)
+}
+
+// How far the levers of the selected model can move. Refused: 22, 1, 2, 4, 6.
+pub fn margin_within(policy: &[u8], request: &[u8], bank: &[u8], room: usize) -> Boundaries
+    ensures { λ r. ⌜ toldBounds r ≡ unless (marginFaults (now (policy .entry)) (now (request .entry)) (now (bank .entry)) room) (answered (marginOf (now (policy .entry)) (now (request .entry)) (now (bank .entry)))) ⌝ }
+{
+    let outcome = opening_outcome(policy, request, bank, BOUNDARY_BYTES, room);
+    if let Outcome::Refused(refusal) = outcome {
+        return refused(refusal);
+    }
+    decision_margin(policy_of(policy), bank, input_of(request))
+}

@@ -1,0 +1,2 @@
+-- Where the numbers of an answer stand.
+pub mod Layout
