@@ -6,7 +6,7 @@ use mathlib.Core.List.{List, [], _∷_}
 use mathlib.Core.Option.{Option, none, some}
 use native.Mathlib.Omega.{arith}
 use lib.ListN.{length, set}
-use Rattle.rules.specs.Bytes.{Field, bytesOf, packed}
+use Rattle.rules.specs.Bytes.{bytesOf, packed}
 use Rattle.rules.specs.Numbers.{Decision, actionNo}
 use Rattle.rules.specs.declared.decision.KernelAction.{KernelAction}
 use Rattle.rules.specs.declared.decision.KernelAction.the-variants as action
