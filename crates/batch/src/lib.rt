@@ -47,13 +47,13 @@ fn first_bad(inputs: &[KernelInput]) -> Outcome
     ensures { λ r. ⌜ toldLeading r ≡ badFrom 0 (now (inputs .entry)) ⌝ }
 {
     let n = inputs.len();
-    let mut i = 0;
-    while i < n {
-        let outcome = input_outcome(inputs[i], i);
+    let mut at = 0;
+    while at < n {
+        let outcome = input_outcome(inputs[at], at);
         if is_refused(outcome) {
             return outcome;
         }
-        i += 1;
+        at += 1;
     }
     Outcome::Answered
 }

@@ -29,7 +29,8 @@ use Rattle.rules.specs.Printed.{decisionLine, countsLine, costText, leve
 use Rattle.rules.specs.Words.{sentence, digit, percent, riseWords, latencyWords, costWords, priceWords, switchWords, leverWords, leversWords, stoppedWords, chosenWords, offWords, noneWords, wordsReport, askWords}
 use Rattle.rules.proofs.Printing.{storedRows, requestRows, printedRows}
 use Rattle.rules.proofs.Loading.{validationRows, trustRows, nextRows, batchRows}
-use Rattle.rules.proofs.Vectors.{byteRows, gateRows, reasonRows, rankRows, refusalRows, boundaryRows}
+use Rattle.rules.proofs.Vectors.{byteRows, gateRows, reasonRows, rankRows, refusalRows}
+use Rattle.rules.proofs.BoundaryRows.{boundaryRows}
 
 table : All rows
 unfolding below atLeast equal lower higher number bytesOf packed filled modelOf inputOf policyOf listedOf lengthFaults roomFaults gateOf detailOf billed costOf scaledPrice shareOf qualityTermOf riskTermOf latencyTermOf exactUtilityOf utilityOf pricedOf verdictOf better ranking gateReason countedFor raisedBy countsFrom countsOf heavier dominantOf stoppedBy rejection executedAs chosen decidedOf decisionOf countsIn traceOf requestFaults prescribeTracedOf firstListed explanationRecord explained explanationOf explainFaults explainOf explainList halveIn searchOf searchAfterFarEnd leverAt selects varied decisionAt wins boundaryOf winLevers winSearch winFor winIn whatWouldWinOf marginLevers marginFor marginIn decisionMarginOf modelBytes inputBytes policyInBytes requestCheck prescribeOf prescribeCheckedOf prescribeTracedCheckedOf findOf utilityIn utilityForModelOf readingFaults readingOf recordOf
@@ -37,11 +38,11 @@ table = (refl, (refl, (refl, (refl, (refl, (refl, (refl, (refl, (refl, (refl, (r
 
 vectors : All (byteRows ++ gateRows ++ reasonRows ++ rankRows ++ refusalRows ++ boundaryRows)
 unfolding below atLeast equal lower higher number bytesOf packed filled modelOf inputOf policyOf listedOf lengthFaults roomFaults gateOf detailOf billed costOf scaledPrice shareOf qualityTermOf riskTermOf latencyTermOf exactUtilityOf utilityOf pricedOf verdictOf better ranking gateReason countedFor raisedBy countsFrom countsOf heavier dominantOf stoppedBy rejection executedAs chosen decidedOf decisionOf countsIn traceOf requestFaults prescribeTracedOf firstListed explanationRecord explained explanationOf explainFaults explainOf explainList halveIn searchOf searchAfterFarEnd leverAt selects varied decisionAt wins boundaryOf winLevers winSearch winFor winIn whatWouldWinOf marginLevers marginFor marginIn decisionMarginOf modelBytes inputBytes policyInBytes requestCheck prescribeOf prescribeCheckedOf prescribeTracedCheckedOf findOf utilityIn utilityForModelOf readingFaults readingOf recordOf
-vectors = (refl, (refl, (refl, (refl, (refl, (refl, (refl, (refl, (refl, (refl, (refl, (refl, (refl, (refl, (refl, (refl, (refl, (refl, (refl, (refl, (refl, (refl, (refl, (refl, (refl, (refl, (refl, (refl, (refl, (refl, (refl, (refl, (refl, (refl, (refl, (refl, (refl, (refl, (refl, (refl, (refl, (refl, (refl, (refl, (refl, (refl, (refl, (refl, (refl, (refl, (refl, (refl, (refl, (refl, (refl, (refl, (refl, (refl, (refl, (refl, (refl, (refl, (refl, (refl, (refl, (refl, (refl, (refl, (refl, (refl, (refl, (refl, (refl, (refl, (refl, (refl, (refl, tt)))))))))))))))))))))))))))))))))))))))))))))))))))))))))))))))))))))))))))))
+vectors = (refl, (refl, (refl, (refl, (refl, (refl, (refl, (refl, (refl, (refl, (refl, (refl, (refl, (refl, (refl, (refl, (refl, (refl, (refl, (refl, (refl, (refl, (refl, (refl, (refl, (refl, (refl, (refl, (refl, (refl, (refl, (refl, (refl, (refl, (refl, (refl, (refl, (refl, (refl, (refl, (refl, (refl, (refl, (refl, (refl, (refl, (refl, (refl, (refl, (refl, (refl, (refl, (refl, (refl, (refl, (refl, (refl, (refl, (refl, (refl, (refl, (refl, (refl, (refl, (refl, (refl, (refl, (refl, (refl, (refl, (refl, (refl, (refl, (refl, (refl, (refl, (refl, (refl, (refl, (refl, (refl, (refl, tt))))))))))))))))))))))))))))))))))))))))))))))))))))))))))))))))))))))))))))))))))
 
 loading : All (validationRows ++ trustRows ++ nextRows ++ batchRows)
 unfolding below atLeast equal lower higher number modelOf inputOf policyOf listedOf lengthFaults roomFaults gateOf detailOf billed costOf scaledPrice shareOf qualityTermOf riskTermOf latencyTermOf exactUtilityOf utilityOf pricedOf verdictOf better ranking gateReason countedFor raisedBy countsFrom countsOf heavier dominantOf stoppedBy rejection executedAs chosen decidedOf decisionOf requestFaults filled verdictAt eligibleFrom nextEligibleOf batchFaults requestsFaults batchCheckedFaults decisionsOf batchOf batchRow batchCheckedOf batchCheckedRow policyFaults emptyFaults repeatFaults providerFaults modelFaults recordFaults recordsFaults offFaults catalogFaults validateOf reservedFaults flagFaults earlyFaults recordsFrom joined insertBy sortedBy idOf orderedOf trustOf trustBank
-loading = (refl, (refl, (refl, (refl, (refl, (refl, (refl, (refl, (refl, (refl, (refl, (refl, (refl, (refl, (refl, (refl, (refl, (refl, (refl, (refl, (refl, (refl, (refl, (refl, (refl, (refl, (refl, (refl, (refl, (refl, (refl, (refl, (refl, (refl, (refl, (refl, (refl, (refl, tt))))))))))))))))))))))))))))))))))))))
+loading = (refl, (refl, (refl, (refl, (refl, (refl, (refl, (refl, (refl, (refl, (refl, (refl, (refl, (refl, (refl, (refl, (refl, (refl, (refl, (refl, (refl, (refl, (refl, (refl, (refl, (refl, (refl, (refl, (refl, (refl, (refl, (refl, (refl, (refl, (refl, (refl, (refl, (refl, (refl, (refl, tt))))))))))))))))))))))))))))))))))))))))
 
 forms : All (storedRows ++ requestRows ++ printedRows)
 unfolding below atLeast equal lower higher number bytesOf packed filled modelOf inputOf policyOf listedOf lengthFaults roomFaults gateOf detailOf billed costOf scaledPrice shareOf qualityTermOf riskTermOf latencyTermOf exactUtilityOf utilityOf pricedOf verdictOf better ranking gateReason countedFor raisedBy countsFrom countsOf heavier dominantOf stoppedBy rejection executedAs chosen decidedOf decisionOf countsIn traceOf requestFaults prescribeTracedOf firstListed explanationRecord explained explanationOf explainFaults explainOf explainList halveIn searchOf searchAfterFarEnd leverAt selects varied decisionAt wins boundaryOf winLevers winSearch winFor winIn whatWouldWinOf marginLevers marginFor marginIn decisionMarginOf modelBytes inputBytes policyInBytes requestCheck prescribeOf prescribeCheckedOf prescribeTracedCheckedOf findOf utilityIn utilityForModelOf readingFaults readingOf recordOf fieldBytes fits bodyOf afterOf fieldFaults formFaults storedForm writeFaults writeStoredOf writeStoredBuffer readFaults readStoredOf readStoredBuffer requestForm writeRequestOf writeRequestBuffer readRequestOf text digitsOf decimal signedDecimal spaced line decisionLine countsLine costText leverLine leverLines passesLine refusedLine programFaults unitReport unitText askFaults askReport askText printOf printBuffer sentence digit percent riseWords latencyWords costWords priceWords switchWords leverWords leversWords stoppedWords chosenWords offWords noneWords wordsReport askWords policyFaults emptyFaults repeatFaults providerFaults modelFaults recordFaults recordsFaults offFaults catalogFaults

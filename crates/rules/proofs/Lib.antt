@@ -14,6 +14,7 @@ pub mod Literals
 pub mod Rows
 pub mod Table
 pub mod Vectors
+pub mod BoundaryRows
 pub mod Loading
 pub mod Printing
 pub mod Checked

@@ -3,14 +3,13 @@ use Prim.Native.Nat.{ℕ}
 use mathlib.Core.List.{List, [], _∷_, _++_, map}
 use mathlib.Core.Option.{none, some}
 use lib.IntN.{pos}
-use lib.ListN.{length, replicate, take, drop}
+use lib.ListN.{replicate, take}
 use Rattle.rules.specs.Records.{policyOf, inputOf}
 use Rattle.rules.specs.Numbers.{Fault, noFault, fault, inputFault, policyFault, modelFault, Decision}
 use Rattle.rules.specs.Explain.{nextEligibleOf}
 use Rattle.rules.specs.Batch.{batchOf, batchRow, batchCheckedOf, batchCheckedRow}
 use Rattle.rules.specs.Validate.{validateOf}
 use Rattle.rules.specs.Trust.{trustOf, trustBank}
-use Rattle.rules.specs.declared.records.KernelInput.{KernelInput}
 use Rattle.rules.proofs.Rows.{Row, says}
 use Rattle.rules.proofs.Example.{modelOne, modelTwo, bank, policy, request, with, decision}
 
@@ -73,6 +72,7 @@ trustRows =
     ∷ trusts policy (named 5 (with 10 (2 ∷ []) modelOne) ++ named 0 modelTwo) (fault 16) (named 5 (with 10 (2 ∷ []) modelOne) ++ named 0 modelTwo)
     ∷ trusts policy (with 10 (3 ∷ []) modelTwo ++ with 10 (2 ∷ []) modelOne) (modelFault 17 0 2 3) (with 10 (3 ∷ []) modelTwo ++ with 10 (2 ∷ []) modelOne)
     ∷ trusts policy (0 ∷ []) (fault 1) (0 ∷ [])
+    ∷ trusts policy (named 0 modelOne ++ (0 ∷ [])) (fault 1) (named 0 modelOne ++ (0 ∷ []))
     -- what validation finds, it finds in the ordered bank, which stays ordered: 10, 11, 12, 15
     ∷ trusts (with 16 (over 17) policy) (modelTwo ++ modelOne) (policyFault 4 10001) bank
     ∷ trusts policy [] (fault 11) []
@@ -135,6 +135,8 @@ abbrev pub batchRows : List Row
 batchRows =
     batches bank (request ∷ worthless ∷ []) 3 noFault (choice ∷ refusal ∷ old ∷ [])
     ∷ batches bank [] 1 noFault (old ∷ [])
+    -- the plain batch takes what the checked one refuses
+    ∷ batches bank (poor ∷ []) 1 noFault (decision 42 3 103 0 65535 0 (pos 0) 0 (pos 0) 2 0 7 3 ∷ [])
     -- 1 before 4, 4 before 3
     ∷ batches (0 ∷ bank) (request ∷ []) 0 (fault 1) []
     ∷ batches bank (request ∷ worthless ∷ []) 1 (fault 4) (old ∷ [])

@@ -1,13 +1,12 @@
 -- Rows beyond document 01's, for what those leave open: every field of every layout, each gate and what it measured, the order of the
 -- counts and of the reasons, each key of the ranking, the clamps, the refusals, and the odd ways of the boundary calls. Assumes nothing.
 use Prim.Native.Nat.{ℕ, zero, suc, _+_, _-_, _*_, _^_}
-use mathlib.Core.Bool.{true, false}
 use mathlib.Core.List.{List, [], _∷_, _++_, map}
 use mathlib.Core.Option.{none, some}
 use lib.IntN.{ℤ, pos, negsuc}
 use lib.ListN.{replicate}
 use Rattle.rules.specs.Records.{modelOf, modelBytes, inputOf, inputBytes, policyOf, policyInBytes}
-use Rattle.rules.specs.Numbers.{Decision, Boundary, fault, noFault, inputFault, firstFault, lengthFaults, refused, answered, twoNumbers}
+use Rattle.rules.specs.Numbers.{Decision, fault, noFault, inputFault, firstFault, lengthFaults, refused, answered, twoNumbers}
 use Rattle.rules.specs.Price.{costOf, scaledPrice}
 use Rattle.rules.specs.Utility.{held}
 use Rattle.rules.specs.Verdict.{verdictOf}
@@ -15,16 +14,20 @@ use Rattle.rules.specs.Rank.{Candidate, sorted}
 use Rattle.rules.specs.Count.{dominantOf}
 use Rattle.rules.specs.Listing.{findOf, readingOf, recordOf}
 use Rattle.rules.specs.Decide.{requestCheck, prescribeOf, prescribeCheckedOf, prescribeTracedCheckedOf, utilityForModelOf}
-use Rattle.rules.proofs.Rows.{Row, says, decides, explains, refuses, wouldWin, margin}
-use Rattle.rules.proofs.Example.{bank, modelOne, modelTwo, policy, request, with, decision, counts, noCounts, counted, lever, noLever, boundary}
+use Rattle.rules.proofs.Rows.{Row, says, decides, explains, refuses}
+use Rattle.rules.proofs.Example.{bank, modelOne, modelTwo, policy, request, with, decision, counts, noCounts, counted}
 use Rattle.rules.proofs.Literals.{modelBytes47, modelSaid, requestBytes70, requestSaid, policyBytes30, policySaid, fourModels, fourRequest, fourPolicy, fourExplained, passes, gateRequest, gatePolicy}
 
 -- the example's request with risk 9,000, and its rejection
-abbrev atHardLimit : List ℕ
+abbrev pub atHardLimit : List ℕ
 atHardLimit = with 36 (40 ∷ 35 ∷ []) request
 
-abbrev stopped : Decision
+abbrev pub stopped : Decision
 stopped = decision 42 3 100 0 65535 0 (pos 0) 0 (pos 0) 0 0 7 3
+
+-- and with confidence 1,999
+abbrev pub unsure : List ℕ
+unsure = with 38 (207 ∷ 7 ∷ []) request
 
 -- ---- bytes: each way, an explanation of each verdict, and one refused
 
@@ -43,6 +46,7 @@ byteRows =
     ∷ refuses bank policy request (replicate 143 255) 4
     ∷ refuses (0 ∷ bank) policy request [] 1
     ∷ explains bank policy atHardLimit [] stopped []
+    ∷ explains bank policy unsure [] (decision 42 3 101 0 65535 0 (pos 0) 0 (pos 0) 0 0 7 3) []
     ∷ []
 
 -- ---- gates, what they measure, and the nine counts
@@ -209,85 +213,4 @@ refusalRows =
     ∷ says (readingOf bank 2) (fault 8)
     ∷ says (recordOf bank 2) []
     ∷ says (recordOf (0 ∷ bank) 0) []
-    ∷ []
-
--- ---- the boundary calls where they don't search, or search little
-
-abbrev choice : Decision
-choice = decision 42 2 2 2 1 300 (pos 6200) 1 (pos 5200) 2 2 7 3
-
-abbrev noLevers : ℕ → Decision → ℕ → Boundary
-noLevers id d n = boundary id d false (noLever ∷ noLever ∷ noLever ∷ noLever ∷ []) 0 n
-
-abbrev boundaryRefusal : ℕ → Boundary
-boundaryRefusal n =
-    record {
-      refusal = fault n;
-      model = 0;
-      decision = decision 0 3 102 0 65535 0 (pos 0) 0 (pos 0) 0 0 0 0;
-      blocked = false;
-      levers = noLever ∷ noLever ∷ noLever ∷ noLever ∷ [];
-      count = 0;
-      passes = 0;
-    }
-
--- what is chosen where model 1 is off
-abbrev alone : Decision
-alone = decision 42 2 2 2 1 300 (pos 6200) 0 (pos 0) 2 1 7 3
-
--- and where model 1 has quality 10,000
-abbrev closer : Decision
-closer = decision 42 2 2 2 1 300 (pos 6200) 1 (pos 6200) 2 2 7 3
-
--- two records with id 7, of which the first lacks the capability
-abbrev seven : Decision
-seven = decision 42 2 2 7 1 300 (pos 6200) 0 (pos 0) 2 1 7 3
-
-abbrev named : ℕ → List ℕ → List ℕ
-named id s = with 0 (id ∷ []) s
-
-abbrev sevens : List ℕ
-sevens = named 7 (with 15 (0 ∷ []) modelTwo) ++ named 7 modelTwo
-
--- model 1 without its capabilities
-abbrev incapable : List ℕ
-incapable = with 15 (0 ∷ []) modelOne
-
-abbrev pub boundaryRows : List Row
-boundaryRows =
-    -- selected already; not listed, also where the request is stopped; stopped
-    wouldWin bank policy request 2 (noLevers 2 choice 1)
-    ∷ wouldWin bank policy atHardLimit 3 (boundaryRefusal 5)
-    ∷ wouldWin bank policy atHardLimit 1
-    (boundary 1 stopped true (noLever ∷ noLever ∷ noLever ∷ noLever ∷ []) 0 1)
-    -- a rejection selects no id, 0 included: id 0 is listed and searched, and its price alone would do
-    ∷ wouldWin (with 0 (0 ∷ []) modelOne) policy (with 28 (0 ∷ 0 ∷ []) request) 0
-    (boundary 0 (decision 42 3 108 0 65535 0 (pos 0) 0 (pos 0) 1 0 7 3) false (lever 3 1000000 0 (some 0) ∷ noLever ∷ noLever ∷ noLever ∷ []) 1 25)
-    -- a model that is off, free of charge and at its price
-    ∷ wouldWin (with 10 (0 ∷ []) (with 31 (replicate 16 0) modelOne) ++ modelTwo) policy request 1
-    (boundary 1 alone false (lever 5 0 1 none ∷ noLever ∷ noLever ∷ noLever ∷ []) 1 2)
-    ∷ wouldWin (with 10 (0 ∷ []) modelOne ++ modelTwo) policy request 1 (noLevers 1 alone 2)
-    -- quality 10,000 costs one pass, a ceiling above it none
-    ∷ wouldWin (with 6 (16 ∷ 39 ∷ 17 ∷ 39 ∷ []) modelOne ++ modelTwo) policy request 1
-    (boundary 1 closer false (lever 2 100 99 none ∷ lever 3 1000000 999333 (some 1799) ∷ noLever ∷ noLever ∷ []) 2 32)
-    -- enabled 2 is on: the four levers are searched, in vain
-    ∷ wouldWin (with 10 (2 ∷ []) incapable ++ modelTwo) policy request 1 (noLevers 1 alone 5)
-    -- a quality above 10,000 costs no pass either
-    ∷ wouldWin (with 6 (17 ∷ 39 ∷ 17 ∷ 39 ∷ []) incapable ++ modelTwo) policy request 1 (noLevers 1 alone 3)
-    -- off, but selected through a later record with the id, or stopped: one pass; off and not selected: only enabled, though a later
-    -- record with the id is on
-    ∷ wouldWin (named 7 (with 10 (0 ∷ []) modelOne) ++ named 7 modelTwo) policy request 7 (noLevers 7 seven 1)
-    ∷ wouldWin (with 10 (0 ∷ []) modelOne) policy atHardLimit 1 (boundary 1 stopped true (noLever ∷ noLever ∷ noLever ∷ noLever ∷ []) 0 1)
-    ∷ wouldWin (named 7 (with 10 (0 ∷ []) modelOne) ++ named 8 modelTwo ++ named 7 modelOne) policy request 7
-    (noLevers 7 (decision 42 2 2 8 1 300 (pos 6200) 7 (pos 5200) 3 2 7 3) 2)
-    -- no latency loses: the far end wins, and there is no lever 2
-    ∷ margin modelTwo (with 22 (0 ∷ []) policy) (with 42 (replicate 4 255) request)
-    (boundary 2 (decision 42 2 2 2 0 300 (pos 6700) 0 (pos 0) 1 1 7 3) false
-    (lever 1 8000 5000 none ∷ lever 3 1000000 16665000 (some 5000) ∷ lever 4 8000 1000 none ∷ noLever ∷ [])
-    3
-    62)
-    -- a rejection has no margin; with repeated ids the first listed record is varied
-    ∷ margin bank policy (with 20 (replicate 8 255) request) (boundaryRefusal 6)
-    ∷ margin sevens policy request (boundary 7 seven false (lever 1 8000 0 none ∷ noLever ∷ noLever ∷ noLever ∷ []) 1 18)
-    ∷ margin (0 ∷ bank) policy request (boundaryRefusal 1)
     ∷ []

@@ -5,7 +5,7 @@ use mathlib.Core.List.{List, []}
 use native.Mathlib.Omega.{arith}
 use Rattle.rules.specs.Limits.{maxCatalogModels}
 use Rattle.rules.specs.Records.{recordsIn, listedOf}
-use Rattle.rules.specs.Numbers.{Fault, lengthFaults, Answer, refused, answered, Decision}
+use Rattle.rules.specs.Numbers.{Fault, lengthFaults, refused, answered, Decision}
 use Rattle.rules.specs.Decide.{decisionOf}
 use Rattle.rules.specs.Levers.{leverAt, decisionAt}
 use Rattle.rules.specs.View.{withModel, viewOf}
