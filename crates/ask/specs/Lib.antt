@@ -1,0 +1,2 @@
+-- What a question is answered.
+pub mod Question

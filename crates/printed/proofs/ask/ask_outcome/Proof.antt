@@ -1,0 +1,50 @@
+-- `printed::ask::ask_outcome` meets its contract. Assumes nothing.
+use mathlib.Core.Path.{_≡_}
+use mathlib.Core.List.{[]}
+use denote.Ref.{now}
+use Rattle.rules.specs.Printed.{programFaults}
+use Rattle.stored.proofs.Buffers.{none-told}
+use Rattle.printed.proofs.Tests.{program-formed, bank-few}
+use Rattle.printed.proofs.Asks.{asking-refused, asking-listed, asking-unlisted, asking-never}
+use borrow.Author.Needs.{needs}
+use Rattle.printed.proofs.ask.ask_outcome.Statement.{statement}
+use Rattle.printed.proofs.ask.ask_outcome.Tie as tie
+
+returns : tie.Need-returns
+returns c = asking-refused _ _ (c .before .outcome .given .1) (c .before .before .before .program-outcome .ensures)
+
+-- the input passes
+none : (c : tie.After-enum-told) → programFaults (now (c .before .before .before .before .args .input)) ≡ []
+none c = none-told _ (c .enum-told .given .1) (c .before .before .program-outcome .ensures)
+
+bank-in-requires : tie.Need-bank-in-requires
+bank-in-requires c κs = program-formed _ (none c)
+
+first-listed-requires : tie.Need-first-listed-requires
+first-listed-requires c κs = rw (c .bank-in .ensures) (bank-few _ (program-formed _ (none (c .before))))
+
+returns-2 : tie.Need-returns-2
+returns-2 c = asking-listed _ _ _ (none (c .before .before .before .before)) (c .before .before .before .bank-in .ensures) (c .before .before .first-listed .ensures) (c .enum-told2 .given .1)
+
+returns-3 : tie.Need-returns-3
+returns-3 c = asking-unlisted _ _ _ (none (c .before .before .before .before)) (c .before .before .before .bank-in .ensures) (c .before .before .first-listed .ensures) (c .enum-told3 .given .1)
+
+returns-4 : tie.Need-returns-4
+returns-4 c = absurd (asking-never _ _ _ (none (c .before .before .before .before .before)) (c .before .before .before .before .bank-in .ensures) (c .before .before .before .first-listed .ensures) (c .before .refusal .given .1))
+
+pub ask-outcome-spec : {M : Type 1} → statement M
+ask-outcome-spec =
+    tie.close
+    (tie.spec
+    (λ c κs. search needs)
+    (λ c. search needs)
+    returns
+    (λ c. search needs)
+    bank-in-requires
+    first-listed-requires
+    (λ c. search needs)
+    (λ c. search needs)
+    (λ c. search needs)
+    returns-2
+    returns-3
+    returns-4)

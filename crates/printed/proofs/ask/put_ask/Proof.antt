@@ -1,0 +1,51 @@
+-- `printed::ask::put_ask` meets its contract. Assumes nothing.
+use mathlib.Core.Path.{_≡_, ap, _∙_}
+use mathlib.Core.List.{[]}
+use denote.Ref.{now}
+use Rattle.rules.specs.Numbers.{Boundary}
+use Rattle.rules.specs.Printed.{askFaults, askReport, askText}
+use Rattle.splice.proofs.Pieces.{written-as}
+use Rattle.stored.proofs.Buffers.{none-told}
+use Rattle.printed.specs.Lines.{Formed}
+use Rattle.printed.proofs.Tests.{program-formed}
+use Rattle.printed.proofs.Reports.{refused-text, passed-text}
+use Rattle.printed.proofs.Asks.{asking-passed, win-told}
+use borrow.Author.Needs.{needs}
+use Rattle.printed.proofs.ask.put_ask.Statement.{statement}
+use Rattle.printed.proofs.ask.put_ask.Tie as tie
+
+returns : tie.Need-returns
+unfolding askText
+returns c = written-as (c .before .before .put-refused .ensures .0) (refused-text _ _ (c .before .before .before .before .before .outcome .given .1) (c .before .before .before .before .before .before .before .ask-outcome .ensures))
+
+-- the question passes
+none : (c : tie.After-enum-told) → askFaults (c .before .before .before .before .before .args .id) (now (c .before .before .before .before .before .args .input)) ≡ []
+none c = none-told _ (c .enum-told .given .1) (c .before .before .ask-outcome .ensures)
+
+formed : (c : tie.After-enum-told) → Formed (now (c .before .before .before .before .before .args .input))
+formed c = program-formed _ (asking-passed _ _ (none c))
+
+returns-2 : tie.Need-returns-2
+unfolding askText
+returns-2 c =
+    let e = c .before .before .before .before .before .before .before .before in
+    let b = win-told _ _ (formed e) (c .before .before .before .before .before .before .before .policy-in .ensures) (c .before .before .before .before .before .before .request-in .ensures) (c .before .before .before .before .before .bank-in .ensures) (c .before .before .before .before .what-would-win .ensures) in
+    written-as (c .before .before .put-asked .ensures) (ap (λ (x : Boundary). askReport (x .decision) x) b ∙ passed-text _ _ (none e))
+
+pub put-ask-spec : {M : Type 1} → statement M
+put-ask-spec =
+    tie.close
+    (tie.spec
+    (λ c κs. search needs)
+    (λ c. search needs)
+    (λ c κs. search needs)
+    (λ c. search needs)
+    returns
+    (λ c. search needs)
+    (λ c κs. formed c)
+    (λ c κs. formed (c .before))
+    (λ c κs. formed (c .before .before))
+    (λ c κs. search needs)
+    (λ c κs. search needs)
+    (λ c. search needs)
+    returns-2)

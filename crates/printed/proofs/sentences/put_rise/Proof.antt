@@ -1,0 +1,29 @@
+-- `printed::sentences::put_rise` meets its contract. Assumes nothing.
+use native.Mathlib.Omega.{arith}
+use Rattle.rules.specs.Text.{text}
+use Rattle.rules.specs.Words.{sentence, riseWords}
+use Rattle.splice.proofs.Pieces.{written-then}
+use borrow.Author.Needs.{needs}
+use Rattle.printed.proofs.sentences.put_rise.Statement.{statement}
+use Rattle.printed.proofs.sentences.put_rise.Tie as tie
+
+returns : tie.Need-returns
+unfolding riseWords sentence text
+returns c =
+    let p = c .before .before .before .before .before .before .before .before .before .before .before .before .before .before .before .put-about .ensures in
+    let q = c .before .before .before .before .before .before .before .before .before .before .before .put-number .ensures in
+    let r = c .before .before .before .before .before .before .put-text .ensures in
+    let s = c .before .before .put-byte .ensures in
+    (written-then (written-then (written-then (p .0) (q .0)) r) s, omega (arith, p .1, q .1, r .ends, s .ends))
+
+pub put-rise-spec : {M : Type 1} → statement M
+put-rise-spec =
+    tie.close
+    (tie.spec
+    (λ c κs. search needs)
+    (λ c κs. search needs)
+    (λ c. search needs)
+    (λ c κs. search needs)
+    (λ c κs. search needs)
+    (λ c. search needs)
+    returns)

@@ -1,0 +1,2 @@
+-- Parts of the lines, and what refuses an input before validation.
+pub mod Lines

@@ -1,0 +1,80 @@
+// The question from the desk: what would make a model win, in the unit program's lines.
+ghost use mathlib.Core.Path.{_≡_};
+ghost use Prim.Native.Nat.{_≤_};
+ghost use lib.ListN.{length};
+ghost use Rattle.rules.specs.Numbers.{toldWritten, toldBoundaries};
+ghost use Rattle.rules.specs.Printed.{askFaults, askReport, askText, printOf, printBuffer};
+ghost use Rattle.kernel.specs.Refuse.{leading, toldLeading};
+ghost use Rattle.splice.specs.Written.{Written as Placed};
+use crate::deliver::deliver;
+use crate::lines::put_decision;
+use crate::lines::put_levers;
+use crate::lines::put_refused;
+use crate::parts::bank_in;
+use crate::parts::policy_in;
+use crate::parts::program_outcome;
+use crate::parts::request_in;
+use counterfactual::what_would_win;
+use kernel::listing::first_listed;
+use rules::Boundaries;
+use rules::Found;
+use rules::Outcome;
+use rules::Refusal;
+use rules::Written;
+use text::put_line;
+
+// A decision line, four levers and the passes always fit into it.
+const ASK_BYTES: usize = 670;
+
+// Whether the question is answered, and if not, why: 20 to 22, 19, validation, 3, and 5 last.
+pub fn ask_outcome(input: &[u8], id: u32) -> Outcome
+    ensures { λ r. ⌜ toldLeading r ≡ leading (askFaults id (now (input .entry))) ⌝ }
+{
+    let outcome = program_outcome(input);
+    if let Outcome::Refused(refusal) = outcome {
+        return Outcome::Refused(refusal);
+    }
+    match first_listed(bank_in(input), id) {
+        Found::At(_) => Outcome::Answered,
+        Found::Nowhere => Outcome::Refused(Refusal::UnknownModel),
+        // No such bank comes here.
+        Found::Refused(refusal) => Outcome::Refused(refusal),
+    }
+}
+
+// The decision, the levers that win, the passes.
+fn put_asked(out: &mut [u8], asked: Boundaries) -> usize
+    requires { ⌜ 670 ≤ length (now out) ⌝ }
+    ensures { λ r. ⌜ Placed (now (out .entry)) 0 (askReport (toldBoundaries asked .decision) (toldBoundaries asked)) (now (out .exit)) r ⌝ }
+{
+    let levers = asked.levers;
+    let passes = [levers.passes];
+    let next = put_decision(out, 0, asked.decision);
+    let end = put_levers(out, next, levers);
+    put_line(out, end, b"passes", &passes)
+}
+
+// The whole answer.
+fn put_ask(out: &mut [u8], input: &[u8], id: u32) -> usize
+    requires { ⌜ 670 ≤ length (now out) ⌝ }
+    ensures { λ r. ⌜ Placed (now (out .entry)) 0 (askText id (now (input .entry))) (now (out .exit)) r ⌝ }
+{
+    let outcome = ask_outcome(input, id);
+    if let Outcome::Refused(refusal) = outcome {
+        return put_refused(out, 0, refusal);
+    }
+    let policy = policy_in(input);
+    let request = request_in(input);
+    let asked = what_would_win(policy, bank_in(input), request, id);
+    put_asked(out, asked)
+}
+
+// What `ask ID` prints for an input, at the start of a buffer, whose other bytes stay. Bad input, or an id that isn't listed, gets the line
+// of its refusal. Refused, with nothing written: 4.
+pub fn ask_text(input: &[u8], id: u32, out: &mut [u8]) -> Written
+    ensures { λ r. ⌜ (toldWritten r ≡ printOf (askText id (now (input .entry))) (length (now (out .entry)))) × (now (out .exit) ≡ printBuffer (askText id (now (input .entry))) (now (out .entry))) ⌝ }
+{
+    let mut space = [0u8; ASK_BYTES];
+    let end = put_ask(&mut space, input, id);
+    deliver(&space[..end], out)
+}

@@ -1,0 +1,69 @@
+// The answer of the unit's program: decision, counts and margin.
+ghost use mathlib.Core.Path.{_≡_};
+ghost use mathlib.Core.List.{[]};
+ghost use Prim.Native.Nat.{_≤_};
+ghost use lib.ListN.{length};
+ghost use Rattle.rules.specs.Records.{listedOf};
+ghost use Rattle.rules.specs.Numbers.{bankFaults, toldWritten};
+ghost use Rattle.rules.specs.Printed.{unitReport, unitText, printOf, printBuffer};
+ghost use Rattle.splice.specs.Written.{Written as Placed};
+use crate::deliver::deliver;
+use crate::lines::put_counts;
+use crate::lines::put_decision;
+use crate::lines::put_levers;
+use crate::lines::put_refused;
+use crate::parts::bank_in;
+use crate::parts::policy_in;
+use crate::parts::program_outcome;
+use crate::parts::request_in;
+use counterfactual::decision_margin;
+use kernel::prescribe_with_trace;
+use rules::KernelInput;
+use rules::Outcome;
+use rules::PolicySnapshot;
+use rules::Traced;
+use rules::Written;
+
+// A decision line, a line of counts and four levers always fit into it.
+const UNIT_BYTES: usize = 840;
+
+// The report over a bank of whole records.
+fn put_report(out: &mut [u8], policy: PolicySnapshot, bank: &[u8], request: KernelInput) -> usize
+    requires { ⌜ (840 ≤ length (now out)) × (bankFaults (now bank) ≡ []) ⌝ }
+    ensures { λ r. ⌜ Placed (now (out .entry)) 0 (unitReport policy request (listedOf (now (bank .entry)))) (now (out .exit)) r ⌝ }
+{
+    let traced = prescribe_with_trace(policy, bank, request);
+    let Traced::Decided(decision, trace) = traced else {
+        // No such bank comes here.
+        return 0;
+    };
+    let margin = decision_margin(policy, bank, request);
+    let levers = margin.levers;
+    let counts = put_decision(out, 0, decision);
+    let next = put_counts(out, counts, trace.rejections);
+    put_levers(out, next, levers)
+}
+
+// The whole answer.
+fn put_unit(out: &mut [u8], input: &[u8]) -> usize
+    requires { ⌜ 840 ≤ length (now out) ⌝ }
+    ensures { λ r. ⌜ Placed (now (out .entry)) 0 (unitText (now (input .entry))) (now (out .exit)) r ⌝ }
+{
+    let outcome = program_outcome(input);
+    if let Outcome::Refused(refusal) = outcome {
+        return put_refused(out, 0, refusal);
+    }
+    let policy = policy_in(input);
+    let request = request_in(input);
+    put_report(out, policy, bank_in(input), request)
+}
+
+// What the unit's program prints for an input, at the start of a buffer, whose other bytes stay. Bad input gets the line of its refusal.
+// Refused, with nothing written: 4.
+pub fn unit_text(input: &[u8], out: &mut [u8]) -> Written
+    ensures { λ r. ⌜ (toldWritten r ≡ printOf (unitText (now (input .entry))) (length (now (out .entry)))) × (now (out .exit) ≡ printBuffer (unitText (now (input .entry))) (now (out .entry))) ⌝ }
+{
+    let mut space = [0u8; UNIT_BYTES];
+    let end = put_unit(&mut space, input);
+    deliver(&space[..end], out)
+}
