@@ -1,10 +1,12 @@
--- The word of a refusal that carries no value is its number. Assumes nothing.
-use Prim.Native.Nat.{ℕ}
+-- What a refusal's word tells: it is never 0, its parts can be read off it, and that of a refusal without values is its number. Assumes nothing.
+use Prim.Native.Nat.{ℕ, _+_, _/_, _%_, _^_, _<_}
+use native.Mathlib.Omega.{arith}
 use mathlib.Core.Path.{_≡_, refl}
 use mathlib.Core.List.{List, [], _∷_}
 use denote.Enum.Declared.{tagOf}
 use types.Run.{OneOf, miss}
-use Rattle.rules.specs.Numbers.{toldRefusal}
+use lib.Dec.{lit<}
+use Rattle.rules.specs.Numbers.{Fault, toldRefusal}
 use Rattle.rules.specs.declared.refusal.Refusal.{Refusal}
 use Rattle.rules.specs.declared.refusal.Refusal.the-variants as refusal
 use Rattle.rules.proofs.refusal.Refusal.{the-type}
@@ -37,3 +39,34 @@ plain-word refusal.TooManyForProgram h = refl
 plain-word refusal.CutShort h = refl
 plain-word refusal.WrongTag h = refl
 plain-word refusal.WrongLength h = refl
+
+-- A REFUSAL'S WORD IS NEVER 0, which says that the call answered
+number-some : (r : Refusal) → 0 < toldRefusal r .number
+number-some refusal.UnevenBank = lit< tt
+number-some refusal.CatalogTooLarge = lit< tt
+number-some (refusal.InputOutOfRange x y z) = lit< tt
+number-some refusal.NoRoom = lit< tt
+number-some refusal.UnknownModel = lit< tt
+number-some refusal.NothingSelected = lit< tt
+number-some refusal.NotEligible = lit< tt
+number-some refusal.BeyondBank = lit< tt
+number-some (refusal.PolicyOutOfRange x y) = lit< tt
+number-some refusal.EmptyCatalog = lit< tt
+number-some (refusal.DuplicateModelId x) = lit< tt
+number-some (refusal.InvalidProviderId x y) = lit< tt
+number-some (refusal.ModelOutOfRange x y z) = lit< tt
+number-some refusal.NoEnabledModels = lit< tt
+number-some refusal.ReservedModelId = lit< tt
+number-some (refusal.InvalidEnabledFlag x y) = lit< tt
+number-some refusal.TooManyToStore = lit< tt
+number-some refusal.TooManyForProgram = lit< tt
+number-some refusal.CutShort = lit< tt
+number-some refusal.WrongTag = lit< tt
+number-some refusal.WrongLength = lit< tt
+
+pub word-some : (r : Refusal) → 0 < wordOf (toldRefusal r)
+word-some r = let h = number-some r in omega arith
+
+-- ITS PARTS CAN BE READ OFF IT, where each fits its bits: so two refusals with one word have one number, field and value, and one id or place
+pub word-tells : (f : Fault) → f .number < 2 ^ 8 → f .field < 2 ^ 8 → f .value < 2 ^ 16 → (wordOf f % 256 ≡ f .number) × (wordOf f / 256 % 256 ≡ f .field) × (wordOf f / 65536 % 65536 ≡ f .value) × (wordOf f / 4294967296 ≡ f .id + f .place)
+word-tells f a b c = (omega arith, omega arith, omega arith, omega arith)
