@@ -7,17 +7,21 @@
  * A bank is any number of models up to 65,535, of 47 bytes each: id u32, provider u16, quality u16, ceiling u16, enabled u8, latency u32,
  * capabilities u64, regions u64, input price u64, output price u64.
  *
+ * A form is a row of fields. A field is a tag u8, the length of its body u16, and the body: a policy under tag 1; a bank of at most 1,394
+ * records under tag 2; a request under tag 3. A stored form is tag 1, then tag 2; a request form is tag 3 alone.
+ *
  * Every function takes any bytes. It answers 0 and writes its answer to the start of `out`, or answers a refusal and writes nothing (but for
  * volankizo_trust, see there); bytes of `out` after the answer stay as they were. A buffer that is written overlaps nothing else that is lent.
  * Of several refusals the first in the order given with each function comes back:
- *   22  a policy is not 30 bytes long, or a request not 70
+ *   22  a policy is not 30 bytes long, or a request not 70; in a form, a field has a length that its tag does not have
  *    1  the bank's length is no multiple of 47
  *    2  the bank has more than 65,535 records
- *    4  `out` or `list` is too short for the answer
+ *    4  a buffer is too short for what it is to hold
  *    3  risk (field 1), confidence (2) or minimum quality (3) is above 10,000; with the field and the value
  *    5  the id is not listed
  *    6  the decision is a rejection
  *    7  the request is stopped by 100 or 101, the id is not listed, or its first listed record is not eligible
+ *    8  the place is beyond the bank
  *   10  hard risk limit (field 4) or minimum confidence (5) is above 10,000, or the multiplier (6) above 50,000; with the field and the value
  *   11  the bank has no record
  *   12  an id that an earlier record has; with the id
@@ -26,6 +30,9 @@
  *   15  no record has enabled other than 0
  *   16  some id is 0
  *   17  enabled is above 1; with the id and the value
+ *   18  the bank has more than 1,394 records, too many for a stored form
+ *   20  a form ends within a field
+ *   21  a form has another tag where a field is due, or no byte, or a byte after its last field
  * as number + 2^8 * field + 2^16 * value + 2^32 * (id or place), see the macros below. */
 #ifndef VOLANKIZO_H
 #define VOLANKIZO_H
@@ -47,6 +54,16 @@ extern "C" {
 #define VOLANKIZO_NEXT_BYTES 8
 #define VOLANKIZO_EXPLANATION_BYTES 72
 #define VOLANKIZO_BOUNDARY_BYTES 183
+#define VOLANKIZO_OFFSET_BYTES 8
+#define VOLANKIZO_FIELD_HEADER_BYTES 3
+#define VOLANKIZO_MAX_STORED_MODELS 1394
+#define VOLANKIZO_STORED_POLICY_BYTES 38
+#define VOLANKIZO_REQUEST_FORM_BYTES 73
+#define VOLANKIZO_UNIT_TEXT_BYTES 848
+#define VOLANKIZO_ASK_TEXT_BYTES 808
+
+/* The bytes of a stored form with a bank of so many bytes. */
+#define VOLANKIZO_STORED_FORM_BYTES(bank_len) ((size_t)(bank_len) + 36)
 
 /* The parts of a refusal. */
 #define VOLANKIZO_NUMBER(word) ((unsigned)((word) & 0xff))
@@ -105,6 +122,35 @@ uint64_t volankizo_what_would_win(const uint8_t *policy, size_t policy_len, cons
 /* For the model that was selected: how far each lever can move before it is not. The same 183 bytes. Refusals: 22, 1, 2, 4, 6. */
 uint64_t volankizo_decision_margin(const uint8_t *policy, size_t policy_len, const uint8_t *request, size_t request_len,
                                    const uint8_t *bank, size_t bank_len, uint8_t *out, size_t out_len);
+
+/* Where the record at a place of a bank begins: 8 bytes, u64, its offset in the bank; the record is the 47 bytes there. Refusals: 1, 2, 4, 8. */
+uint64_t volankizo_record_at(const uint8_t *bank, size_t bank_len, uint64_t place, uint8_t *out, size_t out_len);
+
+/* Writes the stored form of a policy with its bank: 36 bytes more than the bank has. Refusals: 22, 1, 2, 18, 4. */
+uint64_t volankizo_write_stored(const uint8_t *policy, size_t policy_len, const uint8_t *bank, size_t bank_len, uint8_t *out,
+                                size_t out_len);
+
+/* Reads a stored form. The models' bytes go to the start of `bank`, whose other bytes stay; `out`: 38 bytes, the policy at 0, the length of
+ * the models' bytes u64 at 30. Neither buffer is written before the form's end was seen and both have room; nothing is validated or put in
+ * order. Refusals: 20, 21, 22 at each field in its turn, then 4 (of either buffer). */
+uint64_t volankizo_read_stored(const uint8_t *form, size_t form_len, uint8_t *bank, size_t bank_len, uint8_t *out, size_t out_len);
+
+/* Writes the request form: 73 bytes. Refusals: 22, 4. */
+uint64_t volankizo_write_request(const uint8_t *request, size_t request_len, uint8_t *out, size_t out_len);
+
+/* Reads a request form: 70 bytes, the request. Refusals: 20, 21, 22, 4. */
+uint64_t volankizo_read_request(const uint8_t *form, size_t form_len, uint8_t *out, size_t out_len);
+
+/* What the unit's program prints for an input of tags 1, 2 and 3: the text's length in bytes u64 at 0, the text from 8 on, in ASCII with a
+ * newline after each line and no zero after the last. 848 bytes always suffice. An input that the program refuses is answered too: its text
+ * is `refused` and the number. Refusals: 4. */
+uint64_t volankizo_unit_text(const uint8_t *input, size_t input_len, uint8_t *out, size_t out_len);
+
+/* The same for what would make a model win, as `ask ID` prints it. 808 bytes always suffice. Refusals: 4. */
+uint64_t volankizo_ask_text(const uint8_t *input, size_t input_len, uint32_t id, uint8_t *out, size_t out_len);
+
+/* The same in words, as `ask ID words` prints it. 808 bytes always suffice. Refusals: 4. */
+uint64_t volankizo_ask_words(const uint8_t *input, size_t input_len, uint32_t id, uint8_t *out, size_t out_len);
 
 #ifdef __cplusplus
 }

@@ -1,10 +1,49 @@
--- The text that answers a question.
-use Prim.Native.Nat.{ℕ}
-use mathlib.Core.List.{List, []}
+-- What the arguments ask, and the text that answers it.
+use Prim.Native.Nat.{ℕ, _+_, _*_, _-_}
+use mathlib.Core.Bool.{Bool, true, false}
+use mathlib.Core.List.{List, [], _∷_}
+use mathlib.Core.Option.{Option, none, some}
+use lib.Dec.{eqb}
+use Rattle.rules.specs.Choice.{below, equal, pick}
+use Rattle.rules.specs.Text.{text}
 use Rattle.rules.specs.Printed.{askText}
 use Rattle.rules.specs.Words.{askWords}
 use Rattle.ask.specs.declared.question.Question.{Question}
 use Rattle.ask.specs.declared.question.Question.the-variants.{Lines, Words, Unclear}
+
+-- The number that decimal digits say, after digits that said one already; none where some byte is no digit
+unfoldable pub numberAfter : ℕ → List ℕ → Option ℕ
+numberAfter n [] = some n
+numberAfter n (b ∷ bs) = below b 48 none (below 57 b none (numberAfter (n * 10 + (b - 48)) bs))
+
+-- An id is at most 4,294,967,295
+unfoldable pub idOrUnclear : Option ℕ → Question
+idOrUnclear none = Unclear
+idOrUnclear (some n) = below 4294967295 n Unclear (Lines n)
+
+-- The question about the id that an argument says, with a digit at least
+unfoldable pub aboutOf : List ℕ → Question
+aboutOf [] = Unclear
+aboutOf (b ∷ bs) = idOrUnclear (numberAfter 0 (b ∷ bs))
+
+-- The same question, to be answered in words
+unfoldable pub inWords : Question → Question
+inWords (Lines id) = Words id
+inWords (Words id) = Words id
+inWords Unclear = Unclear
+
+-- Whether two texts are the same
+unfoldable pub sameText : List ℕ → List ℕ → Bool
+sameText [] [] = true
+sameText [] (b ∷ bs) = false
+sameText (a ∷ rest) [] = false
+sameText (a ∷ rest) (b ∷ bs) = pick (eqb a b) (λ _. sameText rest bs) (λ _. false)
+
+-- What arguments ask, the program's name counted among them: an id alone, or an id and `words`
+unfoldable pub questionOf : ℕ → List ℕ → List ℕ → Question
+questionOf count first second =
+    equal count 2 (aboutOf first)
+    (equal count 3 (pick (sameText second (text "words")) (λ _. inWords (aboutOf first)) (λ _. Unclear)) Unclear)
 
 -- An id's lines, or its sentences; an unclear question has no answer
 unfoldable pub answerText : Question → List ℕ → List ℕ

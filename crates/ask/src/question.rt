@@ -1,10 +1,11 @@
 // What the program's arguments ask.
 ghost use mathlib.Core.Path.{_≡_};
-ghost use Prim.Native.Nat.{_≤_};
+ghost use Prim.Native.Nat.{_-_};
+ghost use Rattle.rules.specs.Choice.{below};
 ghost use lib.ListN.{length};
 ghost use Rattle.rules.specs.Numbers.{toldWritten};
 ghost use Rattle.rules.specs.Printed.{printOf};
-ghost use Rattle.ask.specs.Question.{answerText};
+ghost use Rattle.ask.specs.Question.{aboutOf, inWords, questionOf, answerText};
 use rules::Written;
 
 pub(crate) enum Question {
@@ -21,7 +22,7 @@ const MAX_ID: u64 = 0xffff_ffff;
 
 // What a digit's byte says; more than 9 for any other byte.
 fn digit(byte: u8) -> u64
-    ensures { λ r. ⌜ r ≤ 255 ⌝ }
+    ensures { λ r. ⌜ r ≡ below byte 48 10 (byte - 48) ⌝ }
 {
     if byte < b'0' {
         return 10;
@@ -30,7 +31,12 @@ fn digit(byte: u8) -> u64
 }
 
 // The question about the id that decimal digits say; unclear where some byte is no digit, there is none, or no id is so high.
-fn about(text: &[u8]) -> Question {
+fn about(text: &[u8]) -> Question
+    ensures { λ r. ⌜ r ≡ aboutOf (now (text .entry)) ⌝ }
+{
+    if text.len() == 0 {
+        return Question::Unclear;
+    }
     let mut id: u64 = 0;
     let mut i = 0;
     while i < text.len() {
@@ -44,14 +50,13 @@ fn about(text: &[u8]) -> Question {
         }
         i += 1;
     }
-    if i == 0 {
-        return Question::Unclear;
-    }
     Question::Lines(id as u32)
 }
 
 // The same question, to be answered in words.
-fn in_words(question: Question) -> Question {
+fn in_words(question: Question) -> Question
+    ensures { λ r. ⌜ r ≡ inWords question ⌝ }
+{
     match question {
         Question::Lines(id) => Question::Words(id),
         Question::Words(id) => Question::Words(id),
@@ -59,20 +64,29 @@ fn in_words(question: Question) -> Question {
     }
 }
 
-// What the arguments ask.
-pub(crate) fn asked() -> Question {
-    let mut space = [0u8; 4096];
-    let count = os::arg_count();
-    let n = os::arg(1, &mut space);
-    let question = about(&space[..n]);
+// What so many arguments ask, the program's name counted among them, of which these are the two after it.
+fn question_of(count: usize, first: &[u8], second: &[u8]) -> Question
+    ensures { λ r. ⌜ r ≡ questionOf count (now (first .entry)) (now (second .entry)) ⌝ }
+{
     if count == 2 {
-        return question;
+        return about(first);
     }
-    let m = os::arg(2, &mut space);
-    if count == 3 && check::same(&space[..m], b"words") {
-        return in_words(question);
+    if count != 3 {
+        return Question::Unclear;
+    }
+    if check::same(second, b"words") {
+        return in_words(about(first));
     }
     Question::Unclear
+}
+
+// What the program's arguments ask.
+pub(crate) fn asked() -> Question {
+    let mut id = [0u8; 4096];
+    let mut form = [0u8; 4096];
+    let n = os::arg(1, &mut id);
+    let m = os::arg(2, &mut form);
+    question_of(os::arg_count(), &id[..n], &form[..m])
 }
 
 // The answer to a question.
@@ -81,7 +95,7 @@ pub(crate) fn answer(question: Question, input: &[u8], out: &mut [u8]) -> Writte
 {
     match question {
         Question::Lines(id) => printed::ask_text(input, id, out),
-        Question::Words(id) => printed::ask_words(input, id, out),
+        Question::Words(id) => words::ask_words(input, id, out),
         Question::Unclear => Written::Bytes(0),
     }
 }

@@ -10,6 +10,7 @@ use lib.ListN.{length, length-map}
 use Rattle.rules.specs.Limits.{maxCatalogModels}
 use Rattle.rules.specs.Choice.{below}
 use Rattle.rules.specs.Records.{recordsIn, listedOf}
+use Rattle.rules.proofs.Faults.{none-after, room-passed}
 use Rattle.rules.specs.Numbers.{Faults, fault, lengthFaults, roomFaults, listUnless, toldDecision, toldOutcome, Decision}
 use Rattle.rules.specs.Decide.{decisionOf}
 use Rattle.rules.specs.Batch.{batchFaults, requestsFaults, batchCheckedFaults, decisionsOf, batchOf, batchRow, batchCheckedOf, batchCheckedRow}
@@ -40,20 +41,6 @@ unfolding refuses leading toldLeading
 answered-none Answered [] told e = refl
 answered-none Answered (f ∷ fs) told e = cc
 answered-none (Refused r) fs told e = cc
-
--- tests that hand nothing back together do so each
-none-after : (fs gs : Faults) → fs ++ gs ≡ [] → gs ≡ []
-none-after [] gs e = e
-none-after (f ∷ fs) gs e = cc
-
--- there is room
-room-none : (needed room : ℕ) → roomFaults needed room ≡ [] → needed ≤ room
-unfolding roomFaults below
-room-none needed room e = go (ltb room needed) refl e
-  where
-    go : (t : Bool) → ltb room needed ≡ t → cond t (fault 4 ∷ []) [] ≡ [] → needed ≤ room
-    go true p h = let z : _≡_ {A = ℕ} 0 1 = cc in absurd (omega arith)
-    go false p h = ltb-false room needed p
 
 -- A request's own decision
 abbrev pub own : PolicySnapshot → List ℕ → KernelInput → Decision
@@ -87,7 +74,7 @@ module _ (p : PolicySnapshot) (bank : List ℕ) (qs : List KernelInput) (ys : Li
     batch-filled e l is = is ∙ at-last (own p bank) qs row ∙ rw (length-map, answered-none o against told e)
 
     pub batch-room : refuses o ≡ false → length qs ≤ length ys
-    batch-room e = room-none (length qs) (length ys) (none-after (lengthFaults (length bank)) (roomFaults (length qs) (length ys)) (answered-none o against told e))
+    batch-room e = room-passed (length qs) (length ys) (none-after (lengthFaults (length bank)) (roomFaults (length qs) (length ys)) (answered-none o against told e))
 
     pub batch-records : refuses o ≡ false → recordsIn (length bank) ≤ maxCatalogModels
     batch-records e = checked-room (length bank) (roomFaults (length qs) (length ys)) (not-refused o e) told

@@ -1,73 +1,41 @@
 -- What tests that hand nothing back tell: the lengths, the bank, the room. Assumes nothing.
 use Prim.Native.Nat.{ℕ, _≤_}
 use mathlib.Core.Path.{_≡_, refl, sym, ap, _∙_}
-use mathlib.Core.Bool.{Bool, true, false, cond}
 use mathlib.Core.List.{List, [], _∷_, _++_}
 use mathlib.Core.Option.{Option}
 use native.Mathlib.Omega.{arith}
-use borrow.Author.Tests.{ltb-false, eqb-true}
-use lib.Dec.{eqb, ltb}
 use lib.IntN.{ℤ}
 use lib.ListN.{length}
-use Rattle.rules.specs.Limits.{policyBytes, requestBytes}
-use Rattle.rules.specs.Choice.{below, equal}
-use Rattle.rules.specs.Records.{inputOf, policyOf}
-use Rattle.rules.specs.Numbers.{Fault, Faults, fault, bankFaults, roomFaults, Answer, refused, answered, unless, listUnless, Decision, DecisionAndTrace}
+use Rattle.rules.specs.Limits.{policyBytes, requestBytes, maxCatalogModels}
+use Rattle.rules.specs.Records.{inputOf, policyOf, recordsIn}
+use Rattle.rules.specs.Numbers.{Fault, Faults, fault, bankFaults, roomFaults, Answer, refused, answered, unless, listUnless, Decision}
 use Rattle.rules.specs.Listing.{findOf}
-use Rattle.rules.specs.Decide.{prescribeTracedOf, prescribeTracedCheckedOf, utilityForModelOf}
+use Rattle.rules.specs.Decide.{utilityForModelOf}
 use Rattle.rules.specs.Explain as rule
 use Rattle.rules.specs.declared.records.KernelInput.{KernelInput}
 use Rattle.rules.specs.declared.records.PolicySnapshot.{PolicySnapshot}
 use Rattle.rules.specs.declared.refusal.Outcome.{Outcome}
 use Rattle.rules.specs.declared.refusal.Outcome.the-variants.{Answered}
 use Rattle.kernel.specs.Refuse.{leading, toldLeading}
-use Rattle.layout.specs.Layout.{uncountedSize, decisionSize}
-use Rattle.boundary.specs.Boundary.{sizeFaults, lentFaults, openingFaults, prescribed, prescribeFaults, prescribeCheckedFaults, faultsIn, utilityFrom, utilityOf, utilityFaults, findFaults, placeIn, utilitySize, placeSize, explainFaults, explainDecision, explainEntries}
-
--- a fault is there or not
-some-fault : (f : Fault) (fs : Faults) → f ∷ fs ≡ [] → ⊥
-some-fault f fs e = let z : _≡_ {A = ℕ} 0 1 = cc in omega arith
-
--- Tests that hand nothing back are empty, and so are those that were joined
-pub none-passed : {o : Outcome} (fs : Faults) → o ≡ Answered → toldLeading o ≡ leading fs → fs ≡ []
-unfolding leading toldLeading
-none-passed [] e h = refl
-none-passed (f ∷ fs) e h = let k = sym (ap toldLeading e) ∙ h in cc
-
-pub none-first : (fs gs : Faults) → fs ++ gs ≡ [] → fs ≡ []
-none-first [] gs e = refl
-none-first (f ∷ fs) gs e = absurd (some-fault f (fs ++ gs) e)
-
-pub none-rest : (fs gs : Faults) → fs ++ gs ≡ [] → gs ≡ []
-none-rest fs gs e = rw (none-first fs gs e) at e
+use Rattle.rules.proofs.Faults.{none-first, none-after, equal-none, room-passed, few-records}
+use Rattle.layout.specs.Layout.{uncountedSize}
+use Rattle.boundary.specs.Boundary.{sizeFaults, lentFaults, openingFaults, faultsIn, utilityFrom, utilityOf, utilityFaults, findFaults, placeIn, utilitySize, placeSize, explainFaults, explainDecision, explainEntries}
 
 -- No 22: the length is the one that is wanted
 pub size-is : (have want : ℕ) → sizeFaults have want ≡ [] → have ≡ want
-unfolding sizeFaults equal
-size-is have want e = go (eqb have want) refl e
-  where
-    go : (t : Bool) → eqb have want ≡ t → cond t [] (fault 22 ∷ []) ≡ [] → have ≡ want
-    go true p h = eqb-true have want p
-    go false p h = absurd (some-fault (fault 22) [] h)
+unfolding sizeFaults
+size-is have want e = equal-none have want (fault 22) e
 
 -- No 4: there is room
-pub room-is : (needed room : ℕ) → roomFaults needed room ≡ [] → needed ≤ room
-unfolding roomFaults below
-room-is needed room e = go (ltb room needed) refl e
-  where
-    go : (t : Bool) → ltb room needed ≡ t → cond t (fault 4 ∷ []) [] ≡ [] → needed ≤ room
-    go true p h = absurd (some-fault (fault 4) [] h)
-    go false p h = ltb-false room needed p
-
 pub lent-room : (bank : List ℕ) (needed room : ℕ) → lentFaults bank needed room ≡ [] → needed ≤ room
-lent-room bank needed room e = room-is needed room (none-rest (bankFaults bank) (roomFaults needed room) e)
+lent-room bank needed room e = room-passed needed room (none-after (bankFaults bank) (roomFaults needed room) e)
 
 module _ (policy request bank : List ℕ) (needed room : ℕ) (e : openingFaults policy request bank needed room ≡ []) where
   after : sizeFaults (length request) requestBytes ++ lentFaults bank needed room ≡ []
-  after = none-rest (sizeFaults (length policy) policyBytes) _ e
+  after = none-after (sizeFaults (length policy) policyBytes) _ e
 
   lent : lentFaults bank needed room ≡ []
-  lent = none-rest (sizeFaults (length request) requestBytes) _ after
+  lent = none-after (sizeFaults (length request) requestBytes) _ after
 
   pub opening-policy : policyBytes ≤ length policy
   opening-policy = let is = size-is (length policy) policyBytes (none-first _ _ e) in omega arith
@@ -78,23 +46,20 @@ module _ (policy request bank : List ℕ) (needed room : ℕ) (e : openingFaults
   pub opening-bank : bankFaults bank ≡ []
   opening-bank = none-first (bankFaults bank) (roomFaults needed room) lent
 
+  -- what a call that takes them asks for
+  pub opening-lent : (policyBytes ≤ length policy) × (requestBytes ≤ length request) × (recordsIn (length bank) ≤ maxCatalogModels)
+  opening-lent = (opening-policy, opening-request, few-records (length bank) opening-bank)
+
   pub opening-room : needed ≤ room
   opening-room = lent-room bank needed room lent
 
 -- ---- what the kernel answers once the tests have passed
 
+-- an answer to which nothing is added
+pub all-passed : {A : Type 0} {t a : Answer A} (fs : Faults) → fs ≡ [] → t ≡ a → t ≡ unless fs a
+all-passed fs e h = h ∙ rw e
+
 module _ (policy request bank : List ℕ) (room : ℕ) {p : PolicySnapshot} {q : KernelInput} (ep : p ≡ policyOf policy) (eq : q ≡ inputOf request) where
-  module _ (e : prescribeFaults policy request bank room ≡ []) where
-    pub traced-passed : {t : Answer DecisionAndTrace} → t ≡ prescribeTracedOf p q bank
-        → t ≡ unless (prescribeFaults policy request bank room) (answered (prescribed policy request bank))
-    unfolding prescribeTracedOf
-    traced-passed h = h ∙ rw (ep, eq, e, opening-bank policy request bank decisionSize room e)
-
-    pub checked-passed : {t : Answer DecisionAndTrace} → t ≡ prescribeTracedCheckedOf p q bank
-        → t ≡ unless (prescribeCheckedFaults policy request bank room) (answered (prescribed policy request bank))
-    unfolding prescribeTracedCheckedOf
-    checked-passed h = h ∙ rw (ep, eq, e, opening-bank policy request bank decisionSize room e)
-
   pub utility-passed : (id : ℕ) → openingFaults policy request bank utilitySize room ≡ [] → {t : Answer ℤ} → t ≡ utilityForModelOf p q id bank
       → t ≡ unless (utilityFaults policy request bank id room) (answered (utilityFrom (utilityOf policy request bank id)))
   unfolding utilityForModelOf

@@ -7,6 +7,9 @@ use rules::Refusal;
 use rules::limits::POLICY_BYTES;
 use rules::limits::REQUEST_BYTES;
 ghost use mathlib.Core.Path.{_≡_};
+ghost use mathlib.Core.List.{_++_};
+ghost use Rattle.rules.specs.Records.{inputOf};
+ghost use Rattle.rules.specs.Decide.{requestFaults};
 ghost use Rattle.rules.specs.Numbers.{firstFault, toldOutcome};
 ghost use Rattle.kernel.specs.Refuse.{leading, toldLeading};
 ghost use Rattle.boundary.specs.Boundary.{lentFaults, openingFaults, checkFaults};
@@ -42,6 +45,24 @@ pub fn opening_outcome(
         return Outcome::Refused(Refusal::WrongLength);
     }
     lent_outcome(bank, needed, room)
+}
+
+// The same, then 3 for the request.
+pub fn checked_opening(
+    policy: &[u8],
+    request: &[u8],
+    bank: &[u8],
+    needed: usize,
+    room: usize,
+) -> Outcome
+    ensures { λ r. ⌜ toldLeading r ≡ leading (openingFaults (now (policy .entry)) (now (request .entry)) (now (bank .entry)) needed room ++ requestFaults (inputOf (now (request .entry))) 0) ⌝ }
+{
+    let outcome = opening_outcome(policy, request, bank, needed, room);
+    if let Outcome::Refused(refusal) = outcome {
+        return Outcome::Refused(refusal);
+    }
+    let input = input_of(request);
+    input_outcome(input, 0)
 }
 
 // Of the request check alone: 22, then 3.

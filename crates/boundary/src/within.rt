@@ -1,4 +1,5 @@
 // The kernel's answers for what comes in as bytes, behind the tests of lengths and room.
+use crate::opening::checked_opening;
 use crate::opening::lent_outcome;
 use crate::opening::opening_outcome;
 use bank::input_of;
@@ -6,8 +7,7 @@ use bank::policy_of;
 use explain::explain;
 use explain::next_eligible;
 use kernel::find;
-use kernel::prescribe_with_trace;
-use kernel::prescribe_with_trace_checked;
+use kernel::lent::traced_lent;
 use kernel::utility_for_model;
 use layout::decision::DECISION_BYTES;
 use layout::decision::UNCOUNTED_BYTES;
@@ -38,18 +38,18 @@ pub fn traced_within(policy: &[u8], request: &[u8], bank: &[u8], room: usize) ->
     if let Outcome::Refused(refusal) = outcome {
         return Traced::Refused(refusal);
     }
-    prescribe_with_trace(policy_of(policy), bank, input_of(request))
+    traced_lent(policy, request, bank)
 }
 
 // The same, after the request check. Refused: 22, 1, 2, 4, 3.
 pub fn traced_checked_within(policy: &[u8], request: &[u8], bank: &[u8], room: usize) -> Traced
     ensures { λ r. ⌜ toldTraced r ≡ unless (prescribeCheckedFaults (now (policy .entry)) (now (request .entry)) (now (bank .entry)) room) (answered (prescribed (now (policy .entry)) (now (request .entry)) (now (bank .entry)))) ⌝ }
 {
-    let outcome = opening_outcome(policy, request, bank, DECISION_BYTES, room);
+    let outcome = checked_opening(policy, request, bank, DECISION_BYTES, room);
     if let Outcome::Refused(refusal) = outcome {
         return Traced::Refused(refusal);
     }
-    prescribe_with_trace_checked(policy_of(policy), bank, input_of(request))
+    traced_lent(policy, request, bank)
 }
 
 // The utility of one model. Refused: 22, 1, 2, 4, 7.

@@ -13,17 +13,18 @@ use Rattle.rules.specs.declared.refusal.Outcome.{Outcome}
 use Rattle.rules.specs.declared.refusal.Outcome.the-variants.{Answered, Refused}
 use Rattle.rules.specs.declared.records.PolicySnapshot.{PolicySnapshot}
 use Rattle.kernel.specs.Refuse.{leading, toldLeading}
-use Rattle.kernel.proofs.Refusals.{leading-told}
+use Rattle.kernel.proofs.Refusals.{leading-told, none-told}
 use Rattle.sorting.specs.Keyed.{Ascending, ofKey}
 use Rattle.sorting.specs.Bytes.{recordsOf}
 use Rattle.sorting.proofs.Ordered.{same-length, same-records, ids-ascending, equal-ids-in-old-order, order-again}
-use Rattle.catalogue.proofs.Stages.{passed, stopped, stops, front-empty, whole-length}
+use Rattle.rules.proofs.Faults.{none-first, whole-length}
+use Rattle.catalogue.proofs.Stages.{stopped, stops}
 
 -- what is tested before the ordering passes only banks of whole records
 early-whole : (bank : List ℕ) → earlyFaults bank ≡ [] → length bank % recordBytes ≡ 0
 unfolding earlyFaults
 early-whole bank none =
-    whole-length (length bank) (front-empty (lengthFaults (length bank)) (reservedFaults (listedOf bank)) (front-empty _ (flagFaults (listedOf bank)) none))
+    whole-length (length bank) (none-first (lengthFaults (length bank)) (reservedFaults (listedOf bank)) (none-first _ (flagFaults (listedOf bank)) none))
 
 -- ---- the call
 
@@ -42,7 +43,7 @@ module _ (bank : List ℕ) (early : Outcome) (told : toldLeading early ≡ leadi
 
   module _ (e : early ≡ Answered) where
     none-early : earlyFaults bank ≡ []
-    none-early = passed (earlyFaults bank) e told
+    none-early = none-told (earlyFaults bank) e told
 
     pub ordered-whole : length bank % 47 ≡ 0
     ordered-whole = early-whole bank none-early

@@ -20,6 +20,7 @@ use Rattle.rules.specs.declared.refusal.Outcome.the-variants as outcome
 use Rattle.rules.specs.declared.decision.Found.{Found}
 use Rattle.rules.specs.declared.decision.Found.the-variants.{Refused, At, Nowhere}
 use Rattle.rules.proofs.decision.Found.{the-type}
+use Rattle.kernel.proofs.Refusals.{none-told}
 use Rattle.kernel.specs.Refuse.{leading, toldLeading}
 use Rattle.searches.specs.Asked.{askedOf, Stands}
 use Rattle.counterfactual.specs.Levers.{Room, emptyRoom, roomOf, boundaryWith}
@@ -35,15 +36,9 @@ without Nowhere o k e = cc
 pub with-place : {f : Found} {place : ℕ} {o : Option ℕ} → f ≡ At place → toldFound f ≡ answered o → o ≡ some place
 with-place e h = let k = sym (ap toldFound e) ∙ h in cc
 
--- Tests that hand nothing back find nothing
-pub no-faults : {o : Outcome} (fs : Faults) → o ≡ outcome.Answered → toldLeading o ≡ leading fs → fs ≡ []
-unfolding leading toldLeading
-no-faults [] e h = refl
-no-faults (f ∷ fs) e h = let k = sym (ap toldLeading e) ∙ h in cc
-
--- They leave the answer, and those that hand a number back refuse it
+-- Tests that hand nothing back leave the answer, and those that hand a number back refuse it
 pub boundary-passed : {o : Outcome} (fs : Faults) (b : Boundary) → o ≡ outcome.Answered → toldLeading o ≡ leading fs → boundaryUnless fs b ≡ b
-boundary-passed fs b e h = rw (no-faults fs e h)
+boundary-passed fs b e h = rw (none-told fs e h)
 
 pub boundary-refused : {o : Outcome} {r : Refusal} (fs : Faults) (b : Boundary) → o ≡ outcome.Refused r → toldLeading o ≡ leading fs → boundaryUnless fs b ≡ boundaryRefused (toldRefusal r)
 unfolding leading toldLeading

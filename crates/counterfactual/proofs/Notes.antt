@@ -6,24 +6,24 @@ use lib.ListN.{length}
 use Rattle.rules.specs.Levers.{Question, Sought, plain, priced, andThen}
 use Rattle.rules.specs.declared.boundary.Bound.{Bound}
 use Rattle.rules.specs.declared.boundary.Bound.the-variants.{At, Nothing}
-use Rattle.searches.specs.Search.{passesIn}
+use Rattle.rules.specs.Halving.{passesOf}
 use Rattle.counterfactual.specs.Levers.{Room, emptyRoom, joined, roomOf}
 use Rattle.counterfactual.proofs.Rooms.{joined-passes, four-joined}
 
 -- ---- its passes
 
-plain-passes : (lever current : ℕ) (r : Bound) → plain lever current r .passes ≡ passesIn r
+plain-passes : (lever current : ℕ) (r : Bound) → plain lever current r .passes ≡ passesOf r
 plain-passes lever current (At b n) = refl
 plain-passes lever current (Nothing n) = refl
 
-priced-passes : (a : Question) (r : Bound) → priced a r .passes ≤ passesIn r + 1
+priced-passes : (a : Question) (r : Bound) → priced a r .passes ≤ passesOf r + 1
 priced-passes a (At b n) = omega arith
 priced-passes a (Nothing n) = omega arith
 
-pub note-passes : {u : Room} (t : Room) (lever current : ℕ) (r : Bound) → u ≡ joined t (plain lever current r) → u .passes ≡ t .passes + passesIn r
+pub note-passes : {u : Room} (t : Room) (lever current : ℕ) (r : Bound) → u ≡ joined t (plain lever current r) → u .passes ≡ t .passes + passesOf r
 note-passes t lever current r e = omega (arith, joined-passes t (plain lever current r) e, plain-passes lever current r)
 
-pub price-passes : {u : Room} (t : Room) (a : Question) (r : Bound) → u ≡ joined t (priced a r) → u .passes ≤ t .passes + passesIn r + 1
+pub price-passes : {u : Room} (t : Room) (a : Question) (r : Bound) → u ≡ joined t (priced a r) → u .passes ≤ t .passes + passesOf r + 1
 price-passes t a r e = omega (arith, joined-passes t (priced a r) e, priced-passes a r)
 
 -- ---- its entry, if any

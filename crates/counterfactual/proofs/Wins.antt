@@ -16,7 +16,7 @@ use Rattle.rules.specs.Win.{winLevers, ifOn, winSearch, winFor, winIn, winIfLis
 use Rattle.rules.specs.declared.records.KernelInput.{KernelInput}
 use Rattle.rules.specs.declared.records.PolicySnapshot.{PolicySnapshot}
 use Rattle.rules.specs.declared.decision.KernelReason.{KernelReason}
-use Rattle.rules.specs.declared.decision.KernelReason.the-variants as reason
+use Rattle.rules.proofs.Reasons.{reason-some}
 use Rattle.kernel.specs.Stop.{toldStop}
 use Rattle.kernel.specs.declared.stop.Stop.{Stop}
 use Rattle.kernel.specs.declared.stop.Stop.the-variants.{Open, By}
@@ -46,22 +46,6 @@ unfolding roomOf
 off-lost p = p
 
 -- ---- the request's limits
-
--- No reason is 0
-reason-some : (r : KernelReason) → 0 < reasonNo r
-reason-some reason.RequestedModelMaximizesUtility = omega arith
-reason-some reason.AlternativeMaximizesUtility = omega arith
-reason-some reason.RiskHardLimit = omega arith
-reason-some reason.ConfidenceHardLimit = omega arith
-reason-some reason.NoEnabledModel = omega arith
-reason-some reason.QualityConstraint = omega arith
-reason-some reason.LatencyConstraint = omega arith
-reason-some reason.CapabilityConstraint = omega arith
-reason-some reason.ProviderConstraint = omega arith
-reason-some reason.RegionConstraint = omega arith
-reason-some reason.BudgetConstraint = omega arith
-reason-some reason.NonPositiveUtility = omega arith
-reason-some reason.RiskCeilingConstraint = omega arith
 
 module _ (a : Question) (d : Decision) {s : Stop} (told : toldStop s ≡ stoppedBy (a .policy) (a .request)) where
   pub win-stopped : {r : KernelReason} → s ≡ By r → winFor a d ≡ boundaryOf (a .id) d true noSearch

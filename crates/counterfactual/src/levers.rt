@@ -8,7 +8,7 @@ ghost use Rattle.rules.specs.Numbers.{toldEntry};
 ghost use Rattle.rules.specs.Levers.{decisionAt, entry};
 ghost use Rattle.rules.specs.Levers as rule;
 ghost use Rattle.searches.specs.Asked.{questionOf, Stands};
-ghost use Rattle.searches.specs.Search.{passesIn};
+ghost use Rattle.rules.specs.Halving.{passesOf};
 ghost use Rattle.counterfactual.specs.Levers.{toldLevers, emptyRoom, pushed, passed, joined};
 use rules::Bound;
 use rules::BoundaryCost;
@@ -85,7 +85,7 @@ fn pass(levers: Levers, n: u64) -> Levers
 
 // With what the search of a lever found.
 pub fn note(levers: Levers, lever: u8, current: u64, found: Bound) -> Levers
-    requires { ⌜ levers .passes + passesIn found < 2 ^ 64 ⌝ }
+    requires { ⌜ levers .passes + passesOf found < 2 ^ 64 ⌝ }
     ensures { λ r. ⌜ toldLevers r ≡ joined (toldLevers levers) (rule.plain lever current found) ⌝ }
 {
     match found {
@@ -96,7 +96,7 @@ pub fn note(levers: Levers, lever: u8, current: u64, found: Bound) -> Levers
 
 // With what the search of the price found.
 pub fn note_price(levers: Levers, asked: Asked, bank: &[u8], found: Bound) -> Levers
-    requires { ⌜ (Stands asked (now bank)) × (levers .passes + passesIn found + 1 < 2 ^ 64) ⌝ }
+    requires { ⌜ (Stands asked (now bank)) × (levers .passes + passesOf found + 1 < 2 ^ 64) ⌝ }
     ensures { λ r. ⌜ toldLevers r ≡ joined (toldLevers levers) (rule.priced (questionOf asked (now (bank .entry))) found) ⌝ }
 {
     match found {

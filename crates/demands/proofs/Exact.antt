@@ -5,11 +5,11 @@ use mathlib.Core.Bool.{Bool, true, false, false≢true}
 use mathlib.Core.Logic.{_⊎_, inl, inr}
 use native.Mathlib.Decide.{decLt}
 use native.Mathlib.Omega.{arith}
-use Rattle.rules.specs.Halving.{Side, Lowest, Highest, firstTried, middle, keptLow, keptHigh, halve, searchOf, farEnd, laterBy, searchAfterFarEnd}
+use Rattle.rules.specs.Halving.{Side, Lowest, Highest, firstTried, middle, keptLow, keptHigh, halve, searchOf, farEnd, laterBy, searchAfterFarEnd, passesOf}
 use Rattle.rules.specs.declared.boundary.Bound.{Bound}
 use Rattle.rules.specs.declared.boundary.Bound.the-variants.{At, Nothing}
 use Rattle.rules.proofs.Halvings.{Truth, is, isnt, truth, halve-end, halve-step, search-empty, search-no, search-yes, few, margin-none, margin-some}
-use Rattle.demands.specs.Exact.{range, In, AtOrBetter, TurnsOnce, BoundaryAt, passesOf, SearchExact, FarEndExact}
+use Rattle.demands.specs.Exact.{range, In, AtOrBetter, TurnsOnce, BoundaryAt, SearchExact, FarEndExact}
 
 -- ---- the two sides
 

@@ -17,12 +17,12 @@ use Rattle.rules.specs.Verdict.{pricedOf, verdictOf}
 use Rattle.rules.specs.Rank.{better, ranking}
 use Rattle.rules.specs.Decide.{stoppedBy, rejection, executedAs, chosen, decidedOf, decisionOf}
 use Rattle.rules.specs.Listing.{firstListed}
-use Rattle.rules.specs.Halving.{Lowest, Highest, halveIn, searchOf, searchAfterFarEnd}
+use Rattle.rules.specs.Halving.{Lowest, Highest, halveIn, searchOf, searchAfterFarEnd, passesOf}
 use Rattle.rules.specs.Levers.{Question, leverAt, selects, varied, decisionAt, wins}
 use Rattle.rules.specs.declared.records.KernelInput.{KernelInput}
 use Rattle.rules.specs.declared.records.PolicySnapshot.{PolicySnapshot}
 use Rattle.rules.proofs.Example.{bank, policy, request, with}
-use Rattle.demands.specs.Exact.{range, TurnsOnce, BoundaryAt, NotEverywhere, passesOf}
+use Rattle.demands.specs.Exact.{range, TurnsOnce, BoundaryAt, NotEverywhere}
 use Rattle.demands.specs.Standing.{UniqueIds}
 use Rattle.demands.specs.Demand3.{question}
 use Rattle.demands.proofs.Exact.{search-exact, margin-exact, search-short, margin-short}

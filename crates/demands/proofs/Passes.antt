@@ -13,7 +13,7 @@ use Rattle.rules.specs.Records.{Listed, listedOf}
 use Rattle.rules.specs.Numbers.{Fault, bankFaults, Decision, Boundary, isRejection, fault}
 use Rattle.rules.specs.Decide.{stoppedBy, decisionOf}
 use Rattle.rules.specs.Listing.{firstListed}
-use Rattle.rules.specs.Halving.{Lowest, Highest}
+use Rattle.rules.specs.Halving.{Lowest, Highest, passesOf}
 use Rattle.rules.specs.Levers.{Question, selects, wins, plain, priced, noSearch, boundaryOf, boundaryRefused, boundaryUnless}
 use Rattle.rules.specs.Win.{ifOn, winLevers, winSearch, winFor, winIfListed, winIn, whatWouldWinOf}
 use Rattle.rules.specs.Margin.{marginLevers, marginIfListed, marginFor, marginIn, decisionMarginOf}
@@ -22,7 +22,6 @@ use Rattle.rules.specs.declared.boundary.Bound.the-variants.{At, Nothing}
 use Rattle.rules.specs.declared.records.KernelInput.{KernelInput}
 use Rattle.rules.specs.declared.records.PolicySnapshot.{PolicySnapshot}
 use Rattle.demands.specs.Lists.{Each}
-use Rattle.demands.specs.Exact.{passesOf}
 use Rattle.demands.specs.Demand3.{winQuality, winLatency, winPrice, winCeiling, marginQuality, marginLatency, marginPrice, marginCeiling, question, Unselected, SwitchedOn, passesWithCost, halvingIn, halvingAfterFarEnd, winPasses, marginPasses, mostToWin, mostForMargin, mostForMarginWithin, AreBytes, Within}
 use Rattle.demands.proofs.Exact.{search-short, margin-short}
 use Rattle.demands.proofs.Winning.{searched}

@@ -10,6 +10,7 @@ use lib.ListN.{length}
 use Rattle.rules.specs.Limits.{maxBps, maxRiskMultiplier, maxProviderId, maxCatalogModels, recordBytes}
 use Rattle.rules.specs.Choice.{below, equal}
 use Rattle.rules.specs.Records.{Listed, listedOf, recordsIn}
+use Rattle.rules.proofs.Faults.{none-first, none-after, below-none}
 use Rattle.rules.specs.Numbers.{Fault, Faults, fault, noFault, policyFault, modelFault, firstFault, lengthFaults, bankFaults}
 use Rattle.rules.specs.Validate.{policyFaults, emptyFaults, repeatFaults, providerFaults, rangeFaults, modelFaults, recordFaults, recordsFaults, offFaults, catalogFaults, validateOf}
 use Rattle.rules.specs.declared.records.KernelModel.{KernelModel}
@@ -97,23 +98,6 @@ catalog-numbered p ls =
 
 -- ---- no fault of the records: ids differ, qualities and ceilings are within 10,000
 
-first-empty : {A : Type 0} (xs ys : List A) → xs ++ ys ≡ [] → xs ≡ []
-first-empty [] ys e = refl
-first-empty (x ∷ xs) ys e = absurd (omega (arith, ap length e))
-
-rest-empty : {A : Type 0} (xs ys : List A) → xs ++ ys ≡ [] → ys ≡ []
-rest-empty [] ys e = e
-rest-empty (x ∷ xs) ys e = absurd (omega (arith, ap length e))
-
--- a number that is not above the most
-not-above : (a b : ℕ) (f : Fault) → below a b (f ∷ []) [] ≡ [] → b ≤ a
-unfolding below
-not-above a b f e = go (ltb a b) refl e
-  where
-    go : (t : Bool) → ltb a b ≡ t → cond t (f ∷ []) [] ≡ [] → b ≤ a
-    go true t e = absurd (omega (arith, ap length e))
-    go false t e = ltb-false a b t
-
 -- an id that no earlier one is
 not-seen : (earlier : List ℕ) (id : ℕ) → repeatFaults earlier id ≡ [] → Each (λ seen. seen ≡ id → ⊥) earlier
 unfolding repeatFaults equal
@@ -129,8 +113,8 @@ unfolding modelFaults
 model-within m e =
     let quality = rangeFaults 7 (m .«model_id») (m .«quality_bps») in
     let ceiling = rangeFaults 8 (m .«model_id») (m .«risk_ceiling_bps») in (
-      not-above maxBps (m .«quality_bps») (modelFault 14 7 (m .«model_id») (m .«quality_bps»)) (first-empty quality ceiling e),
-      not-above maxBps (m .«risk_ceiling_bps») (modelFault 14 8 (m .«model_id») (m .«risk_ceiling_bps»)) (rest-empty quality ceiling e),
+      below-none maxBps (m .«quality_bps») (modelFault 14 7 (m .«model_id») (m .«quality_bps»)) (none-first quality ceiling e),
+      below-none maxBps (m .«risk_ceiling_bps») (modelFault 14 8 (m .«model_id») (m .«risk_ceiling_bps»)) (none-after quality ceiling e),
     )
 
 -- of a list after ids that are seen: none of them is seen again, and the rest
@@ -152,15 +136,15 @@ unfolding recordsFaults recordFaults
 accepted earlier [] e = record { fresh = tt; unique = tt; within = tt }
 accepted earlier (l ∷ ls) e =
     let id = l .model .«model_id» in
-    let r = accepted (earlier ++ (id ∷ [])) ls (rest-empty (recordFaults earlier (l .model)) _ e) in
-    let this = first-empty (recordFaults earlier (l .model)) (recordsFaults (earlier ++ (id ∷ [])) ls) e in
+    let r = accepted (earlier ++ (id ∷ [])) ls (none-after (recordFaults earlier (l .model)) _ e) in
+    let this = none-first (recordFaults earlier (l .model)) (recordsFaults (earlier ++ (id ∷ [])) ls) e in
     record {
       fresh = (
-        not-seen earlier id (first-empty (repeatFaults earlier id) _ (first-empty _ (modelFaults (l .model)) this)),
+        not-seen earlier id (none-first (repeatFaults earlier id) _ (none-first _ (modelFaults (l .model)) this)),
         each-so _ _ (λ k h. front _ earlier id h) ls (r .fresh),
       );
       unique = (each-so _ _ (λ k h. end _ earlier id h) ls (r .fresh), r .unique);
-      within = (model-within (l .model) (rest-empty (repeatFaults earlier id ++ providerFaults (l .model)) _ this), r .within);
+      within = (model-within (l .model) (none-after (repeatFaults earlier id ++ providerFaults (l .model)) _ this), r .within);
     }
 
 -- Demand 3. A BANK THAT VALIDATION ACCEPTS IS SOUND: no fault of its length, unique ids, qualities and ceilings within 10,000
@@ -169,7 +153,7 @@ unfolding validateOf catalogFaults
 validated-sound p bank e =
     let ls = listedOf bank in
     let all = none-at-all (bankFaults bank ++ catalogFaults p ls) (both (length-numbered (length bank)) (catalog-numbered p ls)) e in
-    let catalog = rest-empty (bankFaults bank) (catalogFaults p ls) all in
-    let records = rest-empty (policyFaults p ++ emptyFaults ls) (recordsFaults [] ls) (first-empty _ (offFaults ls) catalog) in
+    let catalog = none-after (bankFaults bank) (catalogFaults p ls) all in
+    let records = none-after (policyFaults p ++ emptyFaults ls) (recordsFaults [] ls) (none-first _ (offFaults ls) catalog) in
     let a = accepted [] ls records in
-    record { faultless = first-empty (bankFaults bank) (catalogFaults p ls) all; unique = a .unique; within = a .within }
+    record { faultless = none-first (bankFaults bank) (catalogFaults p ls) all; unique = a .unique; within = a .within }

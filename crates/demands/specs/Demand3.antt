@@ -11,7 +11,7 @@ use Rattle.rules.specs.Records.{Listed, listedOf}
 use Rattle.rules.specs.Numbers.{noFault, bankFaults, Entry, Boundary}
 use Rattle.rules.specs.Decide.{stoppedBy, decisionOf}
 use Rattle.rules.specs.Listing.{firstListed}
-use Rattle.rules.specs.Halving.{Side, Lowest, Highest, searchOf, searchAfterFarEnd}
+use Rattle.rules.specs.Halving.{Side, Lowest, Highest, searchOf, searchAfterFarEnd, passesOf}
 use Rattle.rules.specs.Levers.{Question, selects, decisionAt, wins, entry}
 use Rattle.rules.specs.declared.boundary.Bound.{Bound}
 use Rattle.rules.specs.declared.boundary.Bound.the-variants.{At, Nothing}
@@ -20,7 +20,7 @@ use Rattle.rules.specs.declared.records.KernelInput.{KernelInput}
 use Rattle.rules.specs.declared.records.PolicySnapshot.{PolicySnapshot}
 use Rattle.demands.specs.Lists.{Each}
 use Rattle.demands.specs.Standing.{UniqueIds}
-use Rattle.demands.specs.Exact.{Range, range, passesOf, BoundaryAt, Somewhere, Nowhere, Everywhere, NotEverywhere}
+use Rattle.demands.specs.Exact.{Range, range, BoundaryAt, Somewhere, Nowhere, Everywhere, NotEverywhere}
 
 -- ---- the searched settings: every number of a lever's range
 

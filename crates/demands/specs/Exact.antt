@@ -46,11 +46,6 @@ Everywhere test r = (v : ℕ) → In r v → test v ≡ true
 abbrev pub NotEverywhere : (ℕ → Bool) → Range → Type 0
 NotEverywhere test r = (v : ℕ) × In r v × (test v ≡ false)
 
--- The passes of a search
-abbrev pub passesOf : Bound → ℕ
-passesOf (At b n) = n
-passesOf (Nothing n) = n
-
 -- A search is exact: what it finds is the boundary, and it finds nothing where the test holds nowhere
 abbrev pub SearchExact : Side → (ℕ → Bool) → Range → Bound → Type 0
 SearchExact side test r (At b n) = BoundaryAt side test r b

@@ -4,6 +4,7 @@ use native.Mathlib.Omega.{arith}
 use mathlib.Core.List.{List, [], _∷_, _++_, append-nil}
 use mathlib.Core.Path.{_≡_, refl, sym, ap, _∙_}
 use lib.ListN.{length}
+use Rattle.rules.proofs.Faults.{none-first}
 use Rattle.rules.specs.Numbers.{Faults, bankFaults, roomFaults, answered, unless, toldPrescribed, toldNext}
 use Rattle.rules.specs.Records.{listedOf}
 use Rattle.rules.specs.Decide.{stoppedBy, decisionOf, prescribeOf}
@@ -26,17 +27,13 @@ one-next-eligible list from = one-next _
 
 -- ---- `explain` beside `prescribe`
 
-first-none : (fs gs : Faults) → fs ++ gs ≡ [] → fs ≡ []
-first-none [] gs e = refl
-first-none (f ∷ fs) gs e = cc
-
 module _ (p : PolicySnapshot) (q : KernelInput) (bank list : List ℕ) where
   -- WHERE IT IS NOT REFUSED, `explain` DECIDES AS `prescribe`
   pub explain-as-prescribe : explainFaults p q bank list ≡ [] → explainOf p q bank list ≡ prescribeOf p q bank
   unfolding explainFaults explainOf prescribeOf
   explain-as-prescribe e =
       let a = answered (decisionOf p q (listedOf bank)) in
-      ap (λ (fs : Faults). unless fs a) (e ∙ sym (first-none (bankFaults bank) _ e))
+      ap (λ (fs : Faults). unless fs a) (e ∙ sym (none-first (bankFaults bank) _ e))
 
   -- A STOPPED REQUEST NEEDS NO ROOM: any list does, the empty one too
   no-entry : 0 < stoppedBy p q → explanationOf p q (listedOf bank) ≡ []

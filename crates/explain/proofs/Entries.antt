@@ -18,7 +18,8 @@ use Rattle.endian.specs.Put.{patched}
 use Rattle.bank.proofs.Layouts.{length-packed}
 use Rattle.pricing.specs.declared.Pricing.{Pricing}
 use Rattle.ranking.specs.Verdict.{verdictIn}
-use Rattle.scan.proofs.Places.{nowhere, length-listed, getD-listed}
+use Rattle.bank.proofs.Listing.{length-listed, listed-at}
+use Rattle.scan.proofs.Places.{nowhere}
 use Rattle.splice.specs.Written.{Written}
 use Rattle.splice.proofs.Pieces.{written-none, written-one, written-then, written-as, written-length, written-filled}
 use Rattle.explain.specs.Scanned.{scanned}
@@ -58,7 +59,7 @@ module _ (pr : Pricing) (q : KernelInput) (bank start : List ℕ) where
   bytes-more : (i : ℕ) → i < length bank / 47 → explained (map (tellIn pr q) (take (i + 1) (listedOf bank))) ≡ explained (map (tellIn pr q) (take i (listedOf bank))) ++ explanationRecord (tellIn pr q (listed i (modelAt bank i)))
   bytes-more i h =
       let k : i < length (listedOf bank) = rw length-listed h in
-      rw (add-one, take-suc (listedOf bank) i nowhere k, getD-listed bank i nowhere h, map-append (tellIn pr q) (take i (listedOf bank)) (listed i (modelAt bank i) ∷ []))
+      rw (add-one, take-suc (listedOf bank) i nowhere k, listed-at bank i nowhere h, map-append (tellIn pr q) (take i (listedOf bank)) (listed i (modelAt bank i) ∷ []))
       (explained-snoc _ _)
 
   -- ONE MORE, WRITTEN WHERE THE OTHERS END

@@ -53,7 +53,7 @@ pub fn candidate_verdict(
     if 0 < gate {
         return rejected(gate, gate_detail(model, input, gate));
     }
-    let cost = pricing::cost_exact(model, input);
+    let cost = pricing::cost_apart(model, input);
     if input.budget_limit_microunits < cost {
         return CandidateVerdict::OverBudget {
             cost_microunits: cost,

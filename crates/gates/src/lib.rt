@@ -1,7 +1,7 @@
 // The eight gates that a model meets, what a failed one measured, and the count that it raises.
 // A gate is its number, 1 to 8, in the order of document 01; 0 stands for none.
 ghost use mathlib.Core.Path.{_≡_};
-ghost use Prim.Native.Nat.{_<_, _≤_};
+ghost use Prim.Native.Nat.{_+_, _-_, _%_, _^_, _<_, _≤_};
 ghost use Rattle.rules.specs.Limits.{maxCatalogModels, maxProviderId};
 ghost use Rattle.rules.specs.Gates.{isSlow, isUnable, isBarred, isElsewhere, gateOf, detail, detailOf};
 ghost use Rattle.rules.specs.Count.{gateReason, raisedBy, total};
@@ -9,14 +9,36 @@ use rules::GateDetail;
 use rules::KernelInput;
 use rules::KernelModel;
 use rules::RejectionHistogram;
-use rules::limits::ALL_PROVIDERS;
 use rules::limits::MAX_PROVIDER_ID;
 
-// Gate 3: there is a latency limit, and the model is above it.
+const MAX_U32: u32 = 0xffff_ffff;
+
+// A limit less one in 32 bits: no limit, 0, becomes the highest.
+fn one_below(limit: u32) -> u32
+    ensures { λ r. ⌜ r ≡ (limit + (2 ^ 32 - 1)) % 2 ^ 32 ⌝ }
+{
+    if limit == 0 {
+        return MAX_U32;
+    }
+    limit - 1
+}
+
+// A latency less one, or 0.
+fn one_less(ms: u32) -> u32
+    ensures { λ r. ⌜ r ≡ ms - 1 ⌝ }
+{
+    if ms == 0 {
+        return 0;
+    }
+    ms - 1
+}
+
+// Gate 3: there is a latency limit, and the model is above it. Both less one, a single comparison tells, so that the loop of a scan
+// reads no field of a record before its gate.
 fn is_slow(model: KernelModel, input: KernelInput) -> bool
     ensures { λ r. ⌜ r ≡ isSlow model input ⌝ }
 {
-    0 < input.max_p95_latency_ms && input.max_p95_latency_ms < model.p95_latency_ms
+    one_below(input.max_p95_latency_ms) < one_less(model.p95_latency_ms)
 }
 
 // Gate 4: a required capability is missing.
@@ -26,13 +48,12 @@ fn is_unable(model: KernelModel, input: KernelInput) -> bool
     model.capabilities & input.required_capabilities != input.required_capabilities
 }
 
-// Gate 6: not every provider is admitted, and this one's bit is clear. Gate 5 has refused those that have no bit.
+// Gate 6: the provider's bit is clear; where every provider is admitted, none is. Gate 5 has refused those that have no bit.
 fn is_barred(model: KernelModel, input: KernelInput) -> bool
     requires { ⌜ model .«provider_id» ≤ maxProviderId ⌝ }
     ensures { λ r. ⌜ r ≡ isBarred model input ⌝ }
 {
-    input.allowed_provider_mask != ALL_PROVIDERS
-        && (input.allowed_provider_mask >> model.provider_id) % 2 == 0
+    (input.allowed_provider_mask >> model.provider_id) % 2 == 0
 }
 
 // Gate 7: a region is required, and the model shares none. Requiring every region is no case of its own.

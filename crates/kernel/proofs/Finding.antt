@@ -14,20 +14,18 @@ use Rattle.rules.specs.Choice.{equal}
 use Rattle.rules.specs.Records.{Listed, listed, listedFrom, listedOf, modelAt}
 use Rattle.rules.specs.Listing.{firstListed, placeOf}
 use Rattle.rules.proofs.Choices.{equal-yes, equal-no}
-use Rattle.scan.proofs.Places.{nowhere, length-listed, getD-listed}
+use Rattle.bank.proofs.Listing.{length-listed, listed-at}
+use Rattle.scan.proofs.Places.{nowhere}
 
 module _ (bank : List ℕ) (id : ℕ) where
   -- the place of the first record with the id, from the i-th on
   abbrev pub foundFrom : ℕ → Option ℕ
   foundFrom i = placeOf (firstListed id (drop i (listedOf bank)))
 
-  pub found-start : foundFrom 0 ≡ placeOf (firstListed id (listedOf bank))
-  found-start = refl
-
   tail : (i : ℕ) → i < length bank / 47 → drop i (listedOf bank) ≡ listed i (modelAt bank i) ∷ drop (i + 1) (listedOf bank)
   tail i h =
       let k : i < length (listedOf bank) = rw length-listed h in
-      rw (add-one, drop-cons (listedOf bank) i nowhere k, getD-listed bank i nowhere h)
+      rw (add-one, drop-cons (listedOf bank) i nowhere k, listed-at bank i nowhere h)
 
   -- THE RECORD HAS THE ID, OR THOSE AFTER IT DECIDE
   pub found-here : (i : ℕ) → i < length bank / 47 → modelAt bank i .«model_id» ≡ id → foundFrom i ≡ some i

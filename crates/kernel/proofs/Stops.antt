@@ -14,27 +14,11 @@ use Rattle.rules.specs.declared.records.PolicySnapshot.{PolicySnapshot}
 use Rattle.rules.specs.declared.decision.DecisionTrace.{DecisionTrace}
 use Rattle.rules.specs.declared.decision.RejectionHistogram.{RejectionHistogram}
 use Rattle.rules.specs.declared.decision.KernelReason.{KernelReason}
-use Rattle.rules.specs.declared.decision.KernelReason.the-variants as reason
 use Rattle.rules.proofs.Choices.{below-yes, below-no}
+use Rattle.rules.proofs.Reasons.{reason-some}
 use Rattle.kernel.specs.Stop.{toldStop}
 use Rattle.kernel.specs.declared.stop.Stop.{Stop}
 use Rattle.kernel.specs.declared.stop.Stop.the-variants.{Open, By}
-
--- No reason is 0
-reason-some : (r : KernelReason) → 0 < reasonNo r
-reason-some reason.RequestedModelMaximizesUtility = omega arith
-reason-some reason.AlternativeMaximizesUtility = omega arith
-reason-some reason.RiskHardLimit = omega arith
-reason-some reason.ConfidenceHardLimit = omega arith
-reason-some reason.NoEnabledModel = omega arith
-reason-some reason.QualityConstraint = omega arith
-reason-some reason.LatencyConstraint = omega arith
-reason-some reason.CapabilityConstraint = omega arith
-reason-some reason.ProviderConstraint = omega arith
-reason-some reason.RegionConstraint = omega arith
-reason-some reason.BudgetConstraint = omega arith
-reason-some reason.NonPositiveUtility = omega arith
-reason-some reason.RiskCeilingConstraint = omega arith
 
 module _ {s : Stop} (p : PolicySnapshot) (q : KernelInput) (told : toldStop s ≡ stoppedBy p q) where
   open-low : s ≡ Open → stoppedBy p q ≤ 0

@@ -17,7 +17,8 @@ use Rattle.ranking.specs.declared.state.State.{State}
 use Rattle.ranking.proofs.States.{run-start}
 use Rattle.ranking.proofs.Verdicts.{scan-run}
 use Rattle.scan.specs.Places.{placedFrom}
-use Rattle.scan.proofs.Places.{length-listed, placed-all}
+use Rattle.bank.proofs.Listing.{length-listed}
+use Rattle.scan.proofs.Places.{placed-all}
 use Rattle.kernel.specs.Decide.{decidedFrom}
 use Rattle.kernel.proofs.Decisions.{state-decides}
 

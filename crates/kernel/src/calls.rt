@@ -50,7 +50,7 @@ pub fn prescribe_checked(policy: PolicySnapshot, bank: &[u8], input: KernelInput
 }
 
 // A decision's trace.
-fn trace_of(decision: KernelDecision, counts: RejectionHistogram) -> DecisionTrace
+pub(crate) fn trace_of(decision: KernelDecision, counts: RejectionHistogram) -> DecisionTrace
     ensures { λ r. ⌜ r ≡ traceOf (toldDecision decision) counts ⌝ }
 {
     DecisionTrace {

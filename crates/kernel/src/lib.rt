@@ -2,6 +2,7 @@
 // crates.
 pub mod calls;
 pub mod decide;
+pub mod lent;
 pub mod listing;
 pub mod refuse;
 pub mod single;

@@ -11,11 +11,28 @@ use Rattle.rules.specs.Limits.{scaledBasisPoints, maxU64}
 use Rattle.rules.specs.Utility.{shareOf}
 use Rattle.rules.specs.Wide.{val, wideOf}
 use Rattle.rules.specs.declared.wide.Wide.{Wide}
-use Rattle.pricing.specs.Pricing.{prefixOf}
+use Rattle.rules.specs.Choice.{below}
+use Rattle.pricing.specs.Pricing.{prefixOf, priceLimit}
 
 -- numbers of j and of k bits multiply to no more than the highest two do
 pub product-le : (j k : ℕ) {a b : ℕ} → a < 2 ^ j → b < 2 ^ k → a * b ≤ (2 ^ j - 1) * (2 ^ k - 1)
 product-le j k p q = mul-le-mul (le-ones j p) (le-ones k q)
+
+-- a price below the limit of two counts of tokens fits 64 bits with either of them
+limit-cases : (t m x : ℕ) → t < 2 ^ 32 → m < 2 ^ 32 → x < priceLimit t m → Dec (t < 2 ^ 24) → Dec (m < 2 ^ 24) → (t * x ≤ (2 ^ 32 - 1) * (2 ^ 32 - 1)) × (m * x ≤ (2 ^ 32 - 1) * (2 ^ 32 - 1))
+unfolding priceLimit
+limit-cases t m x p q h (yes a) (yes b) =
+    let l : x < 2 ^ 40 = omega (arith, below-yes t (2 ^ 24) (below m (2 ^ 24) (2 ^ 40) (2 ^ 32)) (2 ^ 32) a, below-yes m (2 ^ 24) (2 ^ 40) (2 ^ 32) b) in
+    (omega (arith, product-le 24 40 a l), omega (arith, product-le 24 40 b l))
+limit-cases t m x p q h (yes a) (no n) =
+    let l : x < 2 ^ 32 = omega (arith, below-yes t (2 ^ 24) (below m (2 ^ 24) (2 ^ 40) (2 ^ 32)) (2 ^ 32) a, below-no m (2 ^ 24) (2 ^ 40) (2 ^ 32) (le-of-suc-le-suc (lt-of-not-le n))) in
+    (product-le 32 32 p l, product-le 32 32 q l)
+limit-cases t m x p q h (no n) d =
+    let l : x < 2 ^ 32 = omega (arith, below-no t (2 ^ 24) (below m (2 ^ 24) (2 ^ 40) (2 ^ 32)) (2 ^ 32) (le-of-suc-le-suc (lt-of-not-le n))) in
+    (product-le 32 32 p l, product-le 32 32 q l)
+
+pub limit-fits : (t m x : ℕ) → t < 2 ^ 32 → m < 2 ^ 32 → x < priceLimit t m → (t * x ≤ (2 ^ 32 - 1) * (2 ^ 32 - 1)) × (m * x ≤ (2 ^ 32 - 1) * (2 ^ 32 - 1))
+limit-fits t m x p q h = limit-cases t m x p q h (decLt t (2 ^ 24)) (decLt m (2 ^ 24))
 
 -- a value times two shares has less than 70 bits
 pub share-lt : {v a b : ℕ} → v < 2 ^ 64 → a < 2 ^ 16 → b < 2 ^ 16 → shareOf v a b < 2 ^ 70

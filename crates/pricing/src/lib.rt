@@ -6,7 +6,7 @@ mod settle;
 mod worth;
 
 pub use price::cost;
-pub use price::cost_exact;
+pub use price::cost_apart;
 pub use price::scaled_price;
 use rules::Wide;
 pub use settle::pricing_of;

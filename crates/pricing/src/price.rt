@@ -1,9 +1,11 @@
-// What tokens cost. By 64 bits where the prices are below 2^32, whatever the tokens; else by two limbs.
+// What tokens cost. By 64 bits where the prices are below 2^32, whatever the tokens, or below 2^40 and the tokens below 2^24; else by
+// two limbs.
 ghost use mathlib.Core.Path.{_≡_};
-ghost use Prim.Native.Nat.{min, _+_, _-_, _*_, _/_, _^_, _<_};
+ghost use Prim.Native.Nat.{min, _+_, _-_, _*_, _/_, _^_, _<_, _≤_};
 ghost use Rattle.rules.specs.Limits.{costScale, maxU64};
 ghost use Rattle.rules.specs.Price.{billed, costOf, scaledPrice};
 ghost use Rattle.rules.specs.Wide.{val};
+ghost use Rattle.pricing.specs.Pricing.{priceLimit};
 use crate::HALF;
 use rules::KernelInput;
 use rules::KernelModel;
@@ -12,10 +14,14 @@ use rules::limits::PPM;
 
 // Tokens that a price is for: the Rust's COST_SCALE.
 const COST_SCALE: u64 = 1_000_000;
+// Fewer tokens than this, 2^24, times a price below 2^40 fit 64 bits.
+const FEW_TOKENS: u32 = 0x100_0000;
+
+const HIGH_PRICE: u64 = 0x100_0000_0000;
 
 // One direction's cost by 64 bits: half of `model_cost_fast`.
 fn billed_small(tokens: u32, price: u64) -> u64
-    requires { ⌜ price < 2 ^ 32 ⌝ }
+    requires { ⌜ tokens * price ≤ (2 ^ 32 - 1) * (2 ^ 32 - 1) ⌝ }
     ensures { λ r. ⌜ (r ≡ billed tokens price) × (r < 2 ^ 62) ⌝ }
 {
     ((tokens as u64) * price + (COST_SCALE - 1)) / COST_SCALE
@@ -45,6 +51,18 @@ fn cost_wide(tokens: u32, price: u64, more: u32, dear: u64) -> u64
     limbs::held(limbs::add(rounded_up(there), rounded_up(back)))
 }
 
+// What a price stays below for its tokens to be paid by 64 bits.
+fn price_limit(tokens: u32, more: u32) -> u64
+    ensures { λ r. ⌜ r ≡ priceLimit tokens more ⌝ }
+{
+    if tokens < FEW_TOKENS {
+        if more < FEW_TOKENS {
+            return HIGH_PRICE;
+        }
+    }
+    HALF
+}
+
 // What a model costs for a request, each direction rounded up apart: `Pricing::cost`. Where both prices are small, the sum
 // needs no test: `model_cost_fast`.
 pub fn cost(model: KernelModel, input: KernelInput) -> u64
@@ -54,8 +72,9 @@ pub fn cost(model: KernelModel, input: KernelInput) -> u64
     let price = model.input_cost_microunits_per_million_tokens;
     let more = input.output_tokens;
     let dear = model.output_cost_microunits_per_million_tokens;
-    if price < HALF {
-        if dear < HALF {
+    let limit = price_limit(tokens, more);
+    if price < limit {
+        if dear < limit {
             let a = billed_small(tokens, price);
             let b = billed_small(more, dear);
             return a + b;
@@ -64,16 +83,23 @@ pub fn cost(model: KernelModel, input: KernelInput) -> u64
     cost_wide(tokens, price, more, dear)
 }
 
-// The same by two limbs alone, for callers outside a scan's loop: `cost` has one caller, so that it is compiled into that loop.
-pub fn cost_exact(model: KernelModel, input: KernelInput) -> u64
+// The same for callers outside a scan's loop: `cost` has one caller, so that it is compiled into that loop.
+pub fn cost_apart(model: KernelModel, input: KernelInput) -> u64
     ensures { λ r. ⌜ r ≡ costOf model input ⌝ }
 {
-    cost_wide(
-        input.input_tokens,
-        model.input_cost_microunits_per_million_tokens,
-        input.output_tokens,
-        model.output_cost_microunits_per_million_tokens,
-    )
+    let there = input.input_tokens;
+    let cheap = model.input_cost_microunits_per_million_tokens;
+    let back = input.output_tokens;
+    let high = model.output_cost_microunits_per_million_tokens;
+    let limit = price_limit(there, back);
+    if cheap < limit {
+        if high < limit {
+            let a = billed_small(there, cheap);
+            let b = billed_small(back, high);
+            return a + b;
+        }
+    }
+    cost_wide(there, cheap, back, high)
 }
 
 // A scaled price by two limbs.

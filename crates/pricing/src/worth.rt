@@ -1,7 +1,8 @@
 // A model's terms, their score, and the utility that a score stands for.
 ghost use mathlib.Core.Path.{_≡_};
 ghost use Prim.Native.Nat.{_-_, _*_, _^_, _<_, _≤_};
-ghost use Rattle.rules.specs.Wide.{val};
+ghost use Rattle.rules.specs.Utility.{shareOf};
+ghost use Rattle.rules.specs.Wide.{val, limbs};
 ghost use Rattle.pricing.specs.Score.{unscored, scoreOf};
 ghost use Rattle.pricing.specs.Pricing.{Settled, scoredTerms, termsWith, utilityTermsOf};
 use crate::HALF;
@@ -66,14 +67,24 @@ fn score_wide(gain: Wide, loss: Wide) -> u64
     limbs::held(left.size)
 }
 
-// A model's terms by two limbs, also for callers outside a scan's loop.
-pub fn terms_wide(pr: Pricing, model: KernelModel, cost: u64) -> ScoredTerms
-    requires { ⌜ Settled pr ⌝ }
-    ensures { λ r. ⌜ r ≡ termsWith pr model cost ⌝ }
+// The terms of a model's quality, cost and latency by two limbs. The numbers come one by one, the risk term as its limbs, so that the
+// loop of a scan holds no struct for this call.
+fn terms_exact(
+    value: u64,
+    confidence: u16,
+    bps: u16,
+    hi: u64,
+    lo: u64,
+    cost: u64,
+    ms: u32,
+    penalty: u64,
+) -> ScoredTerms
+    requires { ⌜ limbs hi lo < 2 ^ 70 ⌝ }
+    ensures { λ r. ⌜ r ≡ scoredTerms (shareOf value confidence bps) (record { hi = hi; lo = lo }) cost (ms * penalty) ⌝ }
 {
-    let quality = share(pr.value, pr.confidence_bps, model.quality_bps);
-    let latency = limbs::product(model.p95_latency_ms as u64, pr.latency_pen_per_ms);
-    let risk = pr.risk_penalty;
+    let quality = share(value, confidence, bps);
+    let latency = limbs::product(ms as u64, penalty);
+    let risk = Wide { hi, lo };
     let loss = limbs::add(risk, limbs::add(limbs::of_one(cost), latency));
     ScoredTerms {
         quality_adjusted: quality,
@@ -82,6 +93,24 @@ pub fn terms_wide(pr: Pricing, model: KernelModel, cost: u64) -> ScoredTerms
         latency_penalty: latency,
         score: score_wide(quality, loss),
     }
+}
+
+// The same under a pricing, for callers outside a scan's loop.
+pub fn terms_wide(pr: Pricing, model: KernelModel, cost: u64) -> ScoredTerms
+    requires { ⌜ Settled pr ⌝ }
+    ensures { λ r. ⌜ r ≡ termsWith pr model cost ⌝ }
+{
+    let risk = pr.risk_penalty;
+    terms_exact(
+        pr.value,
+        pr.confidence_bps,
+        model.quality_bps,
+        risk.hi,
+        risk.lo,
+        cost,
+        model.p95_latency_ms,
+        pr.latency_pen_per_ms,
+    )
 }
 
 // A model's terms, its cost given: `Pricing::terms`. By 64 bits where the numbers that every model shares leave room for
@@ -102,7 +131,16 @@ pub fn terms(pr: Pricing, model: KernelModel, cost: u64) -> ScoredTerms
             }
         }
     }
-    terms_wide(pr, model, cost)
+    terms_exact(
+        pr.value,
+        pr.confidence_bps,
+        model.quality_bps,
+        risk.hi,
+        risk.lo,
+        cost,
+        model.p95_latency_ms,
+        penalty,
+    )
 }
 
 // The utility that a score stands for. Below zero it is a complement, since the size of the lowest i64 is no i64.

@@ -6,11 +6,11 @@ use native.Mathlib.Omega.{arith}
 use lib.ListN.{length}
 use Rattle.rules.specs.Numbers.{roomFaults, answered, toldWritten}
 use Rattle.rules.specs.Printed.{unitText, askText, printOf, printBuffer}
-use Rattle.rules.specs.Words.{askWords}
 use Rattle.rules.specs.declared.forms.Written.{Written}
 use Rattle.rules.specs.declared.forms.Written.the-variants as written
 use Rattle.rules.proofs.ToldStored.{one-written}
-use Rattle.stored.proofs.Buffers.{none-answered, room-enough, room-passed}
+use Rattle.rules.proofs.Faults.{room-enough, room-passed}
+use Rattle.stored.proofs.Buffers.{none-answered}
 
 -- An answer with a buffer at exit, as a promise permits them for a text, and that any two such are equal
 abbrev pub Permitted : List ℕ → List ℕ → Written → List ℕ → Type 0
@@ -19,7 +19,7 @@ Permitted t out r d = (toldWritten r ≡ printOf t (length out)) × (d ≡ print
 abbrev pub Same : List ℕ → List ℕ → Type 0
 Same t out = (r s : Written) (d e : List ℕ) → Permitted t out r d → Permitted t out s e → (r ≡ s) × (d ≡ e)
 
-one-print : (t out : List ℕ) → Same t out
+pub one-print : (t out : List ℕ) → Same t out
 one-print t out r s d e p q = (one-written (printOf t (length out)) r s (p .0) (q .0), p .1 ∙ sym (q .1))
 
 pub one-unit-text : (input out : List ℕ) → Same (unitText input) out
@@ -27,9 +27,6 @@ one-unit-text input out = one-print (unitText input) out
 
 pub one-ask-text : (id : ℕ) (input out : List ℕ) → Same (askText id input) out
 one-ask-text id input out = one-print (askText id input) out
-
-pub one-ask-words : (id : ℕ) (input out : List ℕ) → Same (askWords id input) out
-one-ask-words id input out = one-print (askWords id input) out
 
 -- WHAT WAS PRINTED FITS THE BUFFER
 pub printed-within : {w : Written} {n : ℕ} (t : List ℕ) (room : ℕ) → w ≡ written.Bytes n → toldWritten w ≡ printOf t room → n ≤ room

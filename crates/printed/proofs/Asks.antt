@@ -4,16 +4,11 @@ use mathlib.Core.Path.{_≡_, refl, sym, ap, _∙_}
 use mathlib.Core.List.{List, [], _∷_}
 use mathlib.Core.Option.{Option, none, some}
 use native.Mathlib.Omega.{arith}
-use mathlib.Core.Bool.{false}
-use lib.Dec.{eqb}
-use Rattle.rules.specs.Records.{Listed, modelAt, listedOf}
+use Rattle.rules.specs.Records.{Listed, listedOf}
 use Rattle.rules.specs.Numbers.{fault, answered, toldFound, Boundary}
 use Rattle.rules.specs.Listing.{firstListed, placeOf}
 use Rattle.rules.specs.Win.{whatWouldWinOf}
 use Rattle.rules.specs.Printed.{programPolicy, programBank, programModels, programRequest, programFaults, unlistedFaults, askFaults, askedOf}
-use Rattle.rules.specs.Words.{isOff}
-use Rattle.rules.specs.declared.records.KernelModel.{KernelModel}
-use Rattle.kernel.proofs.Finding.{found-at, found-nothing}
 use Rattle.rules.specs.declared.records.KernelInput.{KernelInput}
 use Rattle.rules.specs.declared.records.PolicySnapshot.{PolicySnapshot}
 use Rattle.rules.specs.declared.refusal.Refusal.{Refusal}
@@ -24,9 +19,9 @@ use Rattle.rules.specs.declared.decision.Found.{Found}
 use Rattle.rules.specs.declared.decision.Found.the-variants as found
 use Rattle.kernel.specs.Refuse.{leading, toldLeading}
 use Rattle.kernel.proofs.Refusals.{append-refused}
-use Rattle.stored.proofs.Buffers.{none-first}
-use Rattle.printed.specs.Lines.{Formed}
-use Rattle.printed.proofs.Tests.{bank-whole}
+use Rattle.rules.proofs.Faults.{none-first}
+use Rattle.inputs.specs.Opening.{Formed}
+use Rattle.inputs.proofs.Tests.{bank-whole}
 
 -- What refuses the programs' input comes first
 pub asking-refused : {o : Outcome} {r : Refusal} (id : ℕ) (input : List ℕ) → o ≡ outcome.Refused r → toldLeading o ≡ leading (programFaults input)
@@ -78,12 +73,3 @@ pub win-told : {b : Boundary} {p : PolicySnapshot} {q : KernelInput} {bank : Lis
 unfolding whatWouldWinOf
 win-told {b} {p} {q} {bank} id input formed policy request models e =
     e ∙ (λ i. whatWouldWinOf (policy i) (request i) (models i) id) ∙ rw (bank-whole input formed)
-
--- ---- whether a model is off
-
-pub off-nowhere : (id : ℕ) (bank : List ℕ) → placeOf (firstListed id (listedOf bank)) ≡ none → false ≡ isOff (firstListed id (listedOf bank))
-off-nowhere id bank e = rw (found-nothing bank id e)
-
-pub off-at : {m : KernelModel} (id : ℕ) (bank : List ℕ) (place : ℕ) → placeOf (firstListed id (listedOf bank)) ≡ some place → m ≡ modelAt bank place
-    → eqb (m .enabled) 0 ≡ isOff (firstListed id (listedOf bank))
-off-at id bank place e f = rw (found-at bank id place e .0, f)

@@ -1,8 +1,5 @@
--- Laws of the printed answers, which callers cite.
-pub mod Joins
-pub mod Tests
+-- Laws of the answers in lines, which callers cite.
 pub mod Reports
 pub mod Asks
-pub mod Sayings
 pub mod Answers
 pub mod Prefixes

@@ -16,7 +16,6 @@ use Rattle.rules.specs.Bytes.{number}
 use Rattle.rules.specs.Numbers.{Fault, Faults, fault}
 use Rattle.rules.specs.Stored.{fits, tagOf, bodyLength, afterOf, fieldFaults, formFaults}
 use Rattle.rules.specs.Printed.{textUnless, programFaults, askFaults, unitText, askText}
-use Rattle.rules.specs.Words.{askWords}
 use Rattle.rules.proofs.Choices.{below-no, equal-yes, equal-no}
 use Rattle.stored.proofs.Reading.{fits-policy, fits-bank, fits-request}
 
@@ -28,7 +27,7 @@ pub data Halted : Faults → Faults → Type 0 where
 halted-more : {fs gs : Faults} (hs ks : Faults) → Halted fs gs → Halted (fs ++ hs) (gs ++ ks)
 halted-more hs ks (both f) = both f
 
-halted-text : {fs gs : Faults} (t u : List ℕ) → Halted fs gs → textUnless fs t ≡ textUnless gs u
+pub halted-text : {fs gs : Faults} (t u : List ℕ) → Halted fs gs → textUnless fs t ≡ textUnless gs u
 halted-text t u (both f) = refl
 
 -- ---- a part of a list
@@ -148,12 +147,12 @@ program-halted : (s : List ℕ) → 65628 ≤ length s → Halted (programFaults
 unfolding programFaults
 program-halted s long = halted-more _ _ (halted-more _ _ (halted-more _ _ (first s long)))
 
-ask-halted : (id : ℕ) (s : List ℕ) → 65628 ≤ length s → Halted (askFaults id (take 65628 s)) (askFaults id s)
+pub ask-halted : (id : ℕ) (s : List ℕ) → 65628 ≤ length s → Halted (askFaults id (take 65628 s)) (askFaults id s)
 unfolding askFaults
 ask-halted id s long = halted-more _ _ (program-halted s long)
 
 -- Of any answer: where the input is shorter, its part is all of it
-by-length : (answer : List ℕ → List ℕ) (s : List ℕ) → (65628 ≤ length s → answer (take 65628 s) ≡ answer s) → answer (take 65628 s) ≡ answer s
+pub by-length : (answer : List ℕ → List ℕ) (s : List ℕ) → (65628 ≤ length s → answer (take 65628 s) ≡ answer s) → answer (take 65628 s) ≡ answer s
 by-length answer s long = go (decLt (length s) 65628)
   where
     go : Dec (length s < 65628) → answer (take 65628 s) ≡ answer s
@@ -167,7 +166,3 @@ unit-prefix input = by-length unitText input (λ h. halted-text _ _ (program-hal
 pub ask-prefix : (id : ℕ) (input : List ℕ) → askText id (take 65628 input) ≡ askText id input
 unfolding askText
 ask-prefix id input = by-length (askText id) input (λ h. halted-text _ _ (ask-halted id input h))
-
-pub words-prefix : (id : ℕ) (input : List ℕ) → askWords id (take 65628 input) ≡ askWords id input
-unfolding askWords
-words-prefix id input = by-length (askWords id) input (λ h. halted-text _ _ (ask-halted id input h))

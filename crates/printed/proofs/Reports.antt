@@ -19,7 +19,8 @@ use Rattle.rules.specs.declared.decision.RejectionHistogram.{RejectionHistogram
 use Rattle.rules.specs.declared.decision.Traced.{Traced}
 use Rattle.rules.specs.declared.decision.Traced.the-variants as traced
 use Rattle.kernel.specs.Refuse.{leading, toldLeading}
-use Rattle.stored.proofs.Buffers.{some-fault, none-answered}
+use Rattle.rules.proofs.Faults.{some-fault}
+use Rattle.stored.proofs.Buffers.{none-answered}
 
 -- ---- refused or not
 

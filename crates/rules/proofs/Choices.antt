@@ -4,9 +4,7 @@ use mathlib.Core.Path.{_≡_}
 use mathlib.Core.Bool.{Bool, true, false}
 use native.Mathlib.Omega.{arith}
 use borrow.Author.Tests.{lt-ltb, le-ltb, le-leb, lt-leb, eq-eqb, ne-eqb}
-use lib.IntN.{ℤ}
-use lib.Signed.{ltZ}
-use Rattle.rules.specs.Choice.{below, atLeast, equal, lower, higher}
+use Rattle.rules.specs.Choice.{below, atLeast, equal, lower}
 
 module _ {A : Type 0} (a b : ℕ) (x y : A) where
   pub below-yes : a < b → below a b x y ≡ x
@@ -45,16 +43,3 @@ module _ (a b : ℕ) (rest : Bool) where
   pub lower-level : a ≡ b → lower a b rest ≡ rest
   unfolding lower
   lower-level e = rw (le-ltb a b (omega arith), le-ltb b a (omega arith))
-
-module _ (a b : ℤ) (rest : Bool) where
-  pub higher-yes : ltZ b a ≡ true → higher a b rest ≡ true
-  unfolding higher
-  higher-yes p = rw p
-
-  pub higher-no : ltZ b a ≡ false → ltZ a b ≡ true → higher a b rest ≡ false
-  unfolding higher
-  higher-no p q = rw (p, q)
-
-  pub higher-level : ltZ b a ≡ false → ltZ a b ≡ false → higher a b rest ≡ rest
-  unfolding higher
-  higher-level p q = rw (p, q)

@@ -104,7 +104,3 @@ counts-sum p q (l ∷ ls) =
     let js = judged p q ls in
     one-more (countsFrom (reasonsOf js)) (candidateOf (judge p q l)) (eligibles js) (verdictOf p q (l .model)) (verdict-told p q (l .model))
     ∙ ap suc (counts-sum p q ls)
-
--- so they are at most the records
-pub counts-low : (p : PolicySnapshot) (q : KernelInput) (ls : List Listed) → total (countsOf (judged p q ls)) ≤ length ls
-counts-low p q ls = omega (arith, counts-sum p q ls, length-map ls (judge p q))

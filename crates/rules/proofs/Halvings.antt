@@ -10,12 +10,7 @@ use mir.Val.{Fits}
 use borrow.Author.Tests.{lt-ltb, le-ltb}
 use Rattle.rules.specs.declared.boundary.Bound.{Bound}
 use Rattle.rules.specs.declared.boundary.Bound.the-variants.{At, Nothing}
-use Rattle.rules.specs.Halving.{Side, Lowest, Highest, firstTried, middle, keptLow, keptHigh, Halved, onePass, halveIn, halve, searchOf, farEnd, laterBy, searchAfterFarEnd}
-
--- the passes of what a search found
-abbrev pub passesOf : Bound → ℕ
-passesOf (At b n) = n
-passesOf (Nothing n) = n
+use Rattle.rules.specs.Halving.{Side, Lowest, Highest, firstTried, middle, keptLow, keptHigh, Halved, onePass, halveIn, halve, passesOf, searchOf, farEnd, laterBy, searchAfterFarEnd}
 
 -- a test holds or not, and the equation is kept
 pub data Truth (b : Bool) : Type 0 where

@@ -1,5 +1,6 @@
 -- Rows and vectors of document 01, by computation, and the laws that code proofs cite.
 pub mod Choices
+pub mod Faults
 pub mod Told
 pub mod ToldStored
 pub mod Limbs

@@ -7,6 +7,9 @@ use mathlib.Core.Logic.{_⊎_, inl, inr, ⊎-elim}
 use mathlib.Core.List.{[], _∷_}
 use lib.ListN.{List·getD-eq-default}
 use Rattle.rules.specs.Count.{gateReason}
+use Rattle.rules.specs.Numbers.{reasonNo}
+use Rattle.rules.specs.declared.decision.KernelReason.{KernelReason}
+use Rattle.rules.specs.declared.decision.KernelReason.the-variants as reason
 
 -- A number that is at least another and not that one is above it
 pub past : {k n : ℕ} → k ≤ n → (n ≡ k → ⊥) → k < n
@@ -37,3 +40,19 @@ reason-counted (suc (suc (suc (suc (suc (suc zero)))))) lo hi = (omega arith, om
 reason-counted (suc (suc (suc (suc (suc (suc (suc zero))))))) lo hi = (omega arith, omega arith)
 reason-counted (suc (suc (suc (suc (suc (suc (suc (suc zero)))))))) lo hi = (omega arith, omega arith)
 reason-counted (suc (suc (suc (suc (suc (suc (suc (suc (suc gate))))))))) lo hi = absurd (omega arith)
+
+-- A reason's number is never 0
+pub reason-some : (r : KernelReason) → 0 < reasonNo r
+reason-some reason.RequestedModelMaximizesUtility = omega arith
+reason-some reason.AlternativeMaximizesUtility = omega arith
+reason-some reason.RiskHardLimit = omega arith
+reason-some reason.ConfidenceHardLimit = omega arith
+reason-some reason.NoEnabledModel = omega arith
+reason-some reason.QualityConstraint = omega arith
+reason-some reason.LatencyConstraint = omega arith
+reason-some reason.CapabilityConstraint = omega arith
+reason-some reason.ProviderConstraint = omega arith
+reason-some reason.RegionConstraint = omega arith
+reason-some reason.BudgetConstraint = omega arith
+reason-some reason.NonPositiveUtility = omega arith
+reason-some reason.RiskCeilingConstraint = omega arith

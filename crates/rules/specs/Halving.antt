@@ -61,6 +61,11 @@ halve side wins low high = halveIn side wins (high - low) low high
 abbrev pub foundAt : Halved → Bound
 foundAt h = At (h .at) (h .passes + 1)
 
+-- P1. The passes of a search
+abbrev pub passesOf : Bound → ℕ
+passesOf (At b n) = n
+passesOf (Nothing n) = n
+
 -- P2, P3, P4. A search: nothing and no pass for an empty range; nothing and one pass where the end tried first loses
 unfoldable pub searchOf : Side → (ℕ → Bool) → ℕ → ℕ → Bound
 searchOf side wins low high =

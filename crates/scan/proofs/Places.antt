@@ -9,30 +9,13 @@ use borrow.Author.Tests.{ltb-true, ltb-false}
 use lib.Dec.{ltb}
 use lib.ListN.{length, getD, take, drop, set, length-append, length-map, length-drop, take-append-drop, List·getD-append, List·getD-map}
 use lib.Seq.{length-take-le, take-append-le, drop-append-le, drop-append-add, drop-drop, getD-append-add, ext-getD, set-at, take-all}
-use Rattle.rules.specs.Records.{Listed, listed, listedFrom, listedOf, modelOf, modelAt}
+use Rattle.rules.specs.Records.{Listed, listed, listedOf, modelOf, modelAt}
+use Rattle.bank.proofs.Listing.{length-listed, listed-at}
 use Rattle.scan.specs.Places.{onward, placedFrom}
 
 -- What stands past the end of a list of records
 abbrev pub nowhere : Listed
 nowhere = listed 0 (modelOf [])
-
-length-from : (bank : List ℕ) (i k : ℕ) → length (listedFrom bank i k) ≡ k
-length-from bank i zero = refl
-length-from bank i (suc k) = ap suc (length-from bank (suc i) k)
-
-getD-from : (bank : List ℕ) (i k j : ℕ) (d : Listed) → j < k → getD (listedFrom bank i k) j d ≡ listed (i + j) (modelAt bank (i + j))
-getD-from bank i zero j d h = absurd (not-suc-le-zero h)
-getD-from bank i (suc k) zero d h = rw add-zero
-getD-from bank i (suc k) (suc j) d h = rw (add-suc, ← suc-add i j) (getD-from bank (suc i) k j d (le-of-suc-le-suc h))
-
--- A BANK'S RECORDS: so many, each at its place
-pub length-listed : (bank : List ℕ) → length (listedOf bank) ≡ length bank / 47
-unfolding listedOf
-length-listed bank = length-from bank 0 (length bank / 47)
-
-pub getD-listed : (bank : List ℕ) (i : ℕ) (d : Listed) → i < length bank / 47 → getD (listedOf bank) i d ≡ listed i (modelAt bank i)
-unfolding listedOf
-getD-listed bank i d h = rw (getD-from bank 0 (length bank / 47) i d h, zero-add)
 
 -- A PART'S RECORDS: as many, each so many places further on
 pub length-placed : (first : ℕ) (part : List ℕ) → length (placedFrom first part) ≡ length part / 47
@@ -47,7 +30,7 @@ getD-any (l ∷ ls) (suc i) d e h = getD-any ls i d e (le-of-suc-le-suc h)
 
 getD-moved : (first : ℕ) (part : List ℕ) (i : ℕ) → i < length part / 47 → getD (placedFrom first part) i (onward first nowhere) ≡ listed (first + i) (modelAt part i)
 unfolding placedFrom
-getD-moved first part i h = List·getD-map (onward first) (listedOf part) i nowhere ∙ ap (onward first) (getD-listed part i nowhere h)
+getD-moved first part i h = List·getD-map (onward first) (listedOf part) i nowhere ∙ ap (onward first) (listed-at part i nowhere h)
 
 pub getD-placed : (first : ℕ) (part : List ℕ) (i : ℕ) (d : Listed) → i < length part / 47 → getD (placedFrom first part) i d ≡ listed (first + i) (modelAt part i)
 getD-placed first part i d h =
@@ -58,7 +41,7 @@ pub placed-all : (bank : List ℕ) → placedFrom 0 bank ≡ listedOf bank
 placed-all bank =
     ext-getD nowhere (placedFrom 0 bank) (listedOf bank) (length-placed 0 bank ∙ sym (length-listed bank))
     λ i h. let k : i < length bank / 47 = rw length-placed at h in
-    rw (getD-placed 0 bank i nowhere k, getD-listed bank i nowhere k, zero-add)
+    rw (getD-placed 0 bank i nowhere k, listed-at bank i nowhere k, zero-add)
 
 -- ---- two parts
 

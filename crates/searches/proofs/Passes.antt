@@ -1,26 +1,17 @@
 -- A pass through a view of the lent bank is the decision with the lever at the value. Assumes nothing.
-use Prim.Native.Nat.{ℕ, _≤_}
+use Prim.Native.Nat.{ℕ}
 use mathlib.Core.Path.{_≡_, refl, sym, ap, _∙_}
-use mathlib.Core.List.{List, []}
+use mathlib.Core.List.{List}
 use native.Mathlib.Omega.{arith}
-use Rattle.rules.specs.Limits.{maxCatalogModels}
-use Rattle.rules.specs.Records.{recordsIn, listedOf}
-use Rattle.rules.specs.Numbers.{Fault, lengthFaults, refused, answered, Decision}
+use Rattle.rules.specs.Records.{listedOf}
+use Rattle.rules.specs.Numbers.{Fault, refused, answered, Decision}
 use Rattle.rules.specs.Decide.{decisionOf}
 use Rattle.rules.specs.Levers.{leverAt, decisionAt}
 use Rattle.rules.specs.View.{withModel, viewOf}
 use Rattle.rules.specs.declared.records.KernelModel.{KernelModel}
-use Rattle.rules.specs.declared.refusal.Outcome.the-variants.{Answered}
-use Rattle.kernel.specs.Refuse.{leading, toldLeading}
-use Rattle.kernel.proofs.Refusals.{bank-room}
 use Rattle.searches.specs.Asked.{questionOf, Stands}
 use Rattle.searches.specs.declared.pass.Asked.{Asked}
 use Rattle.searches.proofs.Varied.{varied-at}
-
--- A BANK THAT ISN'T REFUSED has no more records than 16 bits count
-pub few-records : (bytes : ℕ) → lengthFaults bytes ≡ [] → recordsIn bytes ≤ maxCatalogModels
-unfolding leading toldLeading
-few-records bytes e = bank-room {o = Answered} bytes refl (sym (ap leading e))
 
 module _ (k : Asked) (bank : List ℕ) (stands : Stands k bank) (m : KernelModel) where
   -- the view of such a bank decides

@@ -3,20 +3,15 @@ use Prim.Native.Nat.{ℕ, _+_, _^_, _≤_, _<_}
 use native.Mathlib.Omega.{arith}
 use mathlib.Core.Path.{_≡_, refl, sym, ap, _∙_}
 use mathlib.Core.Bool.{Bool, true, false}
-use Rattle.rules.specs.Halving.{Side, firstTried, middle, keptLow, keptHigh, Halved, onePass, halve, searchOf, farEnd, laterBy, searchAfterFarEnd}
+use Rattle.rules.specs.Halving.{Side, firstTried, middle, keptLow, keptHigh, Halved, onePass, halve, searchOf, farEnd, laterBy, searchAfterFarEnd, passesOf}
 use Rattle.rules.specs.declared.boundary.Bound.{Bound}
 use Rattle.rules.specs.declared.boundary.Bound.the-variants.{At, Nothing}
-use Rattle.rules.proofs.Halvings.{Truth, is, isnt, truth, passesOf, few, halve-at, search-yes, margin-none, margin-some}
-use Rattle.searches.specs.Search.{passesIn}
+use Rattle.rules.proofs.Halvings.{Truth, is, isnt, truth, few, halve-at, search-yes, margin-none, margin-some}
 
 abbrev pub boundFrom : Halved → Bound
 boundFrom h = At (h .at) (h .passes)
 
-same-passes : (b : Bound) → passesIn b ≡ passesOf b
-same-passes (At b n) = refl
-same-passes (Nothing n) = refl
-
-later-passes : (b : Bound) → passesIn (laterBy 1 b) ≡ passesIn b + 1
+later-passes : (b : Bound) → passesOf (laterBy 1 b) ≡ passesOf b + 1
 later-passes (At b n) = refl
 later-passes (Nothing n) = refl
 
@@ -34,13 +29,13 @@ module _ (s : Side) (p : ℕ → Bool) (low high : ℕ) where
   far-lost e f w = e ∙ ap (laterBy 1) f ∙ sym (margin-some s p low high w)
 
   -- AT MOST 65 PASSES over 64 bits, and 66 where the far end is tried first
-  pub search-few : {r : Bound} → r ≡ searchOf s p low high → high < 2 ^ 64 → passesIn r ≤ 65
-  search-few {r} e h = omega (arith, same-passes r, few s p 64 low high e (omega arith))
+  pub search-few : {r : Bound} → r ≡ searchOf s p low high → high < 2 ^ 64 → passesOf r ≤ 65
+  search-few {r} e h = omega (arith, few s p 64 low high e (omega arith))
 
-  pub far-few : {r : Bound} → r ≡ searchAfterFarEnd s p low high → high < 2 ^ 64 → passesIn r ≤ 66
+  pub far-few : {r : Bound} → r ≡ searchAfterFarEnd s p low high → high < 2 ^ 64 → passesOf r ≤ 66
   far-few {r} e h = go (truth (p (farEnd s low high)))
     where
-      go : Truth (p (farEnd s low high)) → passesIn r ≤ 66
-      go (is w) = omega (arith, ap passesIn (e ∙ margin-none s p low high w))
+      go : Truth (p (farEnd s low high)) → passesOf r ≤ 66
+      go (is w) = omega (arith, ap passesOf (e ∙ margin-none s p low high w))
       go (isnt w) =
-          omega (arith, ap passesIn (e ∙ margin-some s p low high w), later-passes (searchOf s p low high), search-few {r = searchOf s p low high} refl h)
+          omega (arith, ap passesOf (e ∙ margin-some s p low high w), later-passes (searchOf s p low high), search-few {r = searchOf s p low high} refl h)

@@ -7,8 +7,3 @@ use Rattle.searches.specs.declared.search.Halved.{Halved}
 
 abbrev pub toldHalved : Halved → rules.Halved
 toldHalved h = record { at = h .at; passes = h .passes }
-
--- The passes of what a search found
-abbrev pub passesIn : Bound → ℕ
-passesIn (At b n) = n
-passesIn (Nothing n) = n

@@ -1,10 +1,9 @@
 // The searches of a margin: the far end is tried first, and where it still wins there is no boundary.
 ghost use mathlib.Core.Path.{_≡_};
 ghost use Prim.Native.Nat.{_+_, _<_, _≤_, _^_};
-ghost use Rattle.rules.specs.Halving.{Lowest, Highest, laterBy, searchAfterFarEnd};
+ghost use Rattle.rules.specs.Halving.{Lowest, Highest, passesOf, laterBy, searchAfterFarEnd};
 ghost use Rattle.rules.specs.Levers.{wins};
 ghost use Rattle.searches.specs.Asked.{questionOf, Asks};
-ghost use Rattle.searches.specs.Search.{passesIn};
 use crate::pass::Asked;
 use crate::pass::wins_at;
 use crate::search::highest_true;
@@ -13,7 +12,7 @@ use rules::Bound;
 
 // What was found, one pass later.
 fn one_later(found: Bound) -> Bound
-    requires { ⌜ passesIn found + 1 < 2 ^ 64 ⌝ }
+    requires { ⌜ passesOf found + 1 < 2 ^ 64 ⌝ }
     ensures { λ r. ⌜ r ≡ laterBy 1 found ⌝ }
 {
     match found {

@@ -1,71 +1,18 @@
 -- A call that writes to the start of a lent buffer: filled where nothing refuses, else as it was. Assumes nothing.
-use Prim.Native.Nat.{ℕ, _≤_, _<_}
+use Prim.Native.Nat.{ℕ}
 use mathlib.Core.Path.{_≡_, refl, sym, ap, _∙_}
-use mathlib.Core.Bool.{Bool, true, false, cond}
-use mathlib.Core.List.{List, [], _∷_, _++_}
+use mathlib.Core.List.{List, [], _∷_}
 use native.Mathlib.Omega.{arith}
-use borrow.Author.Tests.{eqb-true, ltb-false}
-use lib.Dec.{eqb, ltb}
 use lib.ListN.{length}
-use Rattle.rules.specs.Choice.{below, equal}
 use Rattle.rules.specs.Bytes.{filled}
-use Rattle.rules.specs.Numbers.{Fault, Faults, fault, roomFaults, listUnless, toldRefusal, Answer, refused, answered, unless}
+use Rattle.rules.specs.Numbers.{Faults, listUnless, toldRefusal, Answer, refused, answered, unless}
 use Rattle.rules.specs.declared.refusal.Refusal.{Refusal}
-use Rattle.rules.specs.declared.refusal.Refusal.the-variants as refusal
 use Rattle.rules.specs.declared.refusal.Outcome.{Outcome}
-use Rattle.rules.specs.declared.refusal.Outcome.the-variants.{Answered, Refused}
-use Rattle.rules.proofs.Choices.{below-yes, below-no}
+use Rattle.rules.specs.declared.refusal.Outcome.the-variants.{Refused}
+use Rattle.rules.proofs.Faults.{some-fault}
 use Rattle.kernel.specs.Refuse.{leading, toldLeading}
 use Rattle.splice.specs.Written.{Written}
 use Rattle.splice.proofs.Pieces.{written-filled}
-
--- A fault is not none
-pub some-fault : {A : Type 0} {f : Fault} {fs : Faults} → f ∷ fs ≡ [] → A
-some-fault e = absurd (let z : _≡_ {A = ℕ} 0 1 = cc in omega arith)
-
--- Tests that hand nothing back have no fault, and so has each part of them
-pub none-told : {o : Outcome} (fs : Faults) → o ≡ Answered → toldLeading o ≡ leading fs → fs ≡ []
-unfolding toldLeading leading
-none-told [] e h = refl
-none-told (f ∷ fs) e h = let k = sym (ap toldLeading e) ∙ h in cc
-
-pub none-first : (fs gs : Faults) → fs ++ gs ≡ [] → fs ≡ []
-none-first [] gs e = refl
-none-first (f ∷ fs) gs e = some-fault e
-
-pub none-after : (fs gs : Faults) → fs ++ gs ≡ [] → gs ≡ []
-none-after [] gs e = e
-none-after (f ∷ fs) gs e = some-fault e
-
--- What a test that hands nothing back tells
-pub below-none : (a b : ℕ) (f : Fault) → below a b (f ∷ []) [] ≡ [] → b ≤ a
-unfolding below
-below-none a b f e = by-test (ltb a b) refl e
-  where
-    by-test : (t : Bool) → ltb a b ≡ t → cond t (f ∷ []) [] ≡ [] → b ≤ a
-    by-test false p q = ltb-false a b p
-    by-test true p q = some-fault q
-
-pub equal-none : (a b : ℕ) (f : Fault) → equal a b [] (f ∷ []) ≡ [] → a ≡ b
-unfolding equal
-equal-none a b f e = by-test (eqb a b) refl e
-  where
-    by-test : (t : Bool) → eqb a b ≡ t → cond t [] (f ∷ []) ≡ [] → a ≡ b
-    by-test true p q = eqb-true a b p
-    by-test false p q = some-fault q
-
--- The room: refused where it is short of what is needed, and enough where nothing is handed back
-pub room-short : (needed room : ℕ) → room < needed → toldLeading (Refused refusal.NoRoom) ≡ leading (roomFaults needed room)
-unfolding roomFaults toldLeading leading
-room-short needed room h = rw (below-yes room needed _ _ h)
-
-pub room-enough : (needed room : ℕ) → needed ≤ room → roomFaults needed room ≡ []
-unfolding roomFaults
-room-enough needed room h = below-no room needed _ _ h
-
-pub room-passed : (needed room : ℕ) → roomFaults needed room ≡ [] → needed ≤ room
-unfolding roomFaults
-room-passed needed room e = below-none room needed (fault 4) e
 
 -- NOTHING REFUSES: the call answers, and the buffer is filled
 pub passes : {A : Type 0} (fs : Faults) (a : Answer A) → fs ≡ [] → a ≡ unless fs a

@@ -19,7 +19,7 @@ use Rattle.rules.proofs.Choices.{below-no, equal-yes}
 use Rattle.endian.proofs.Numbers.{Small, small-take, small-drop}
 use Rattle.bank.proofs.Layouts.{Fitting}
 use Rattle.bank.proofs.Trips.{length-policy, length-input, policy-back, input-back, policy-forth, input-forth}
-use Rattle.stored.proofs.Buffers.{none-first, none-after, below-none, equal-none, room-enough}
+use Rattle.rules.proofs.Faults.{below-none, equal-none, none-after, none-first, room-enough}
 use Rattle.stored.proofs.OneField.{Passed, body-length}
 use Rattle.stored.proofs.Forms.{form-passed}
 use Rattle.stored.proofs.Reading.{catalog-fields, policy-length, request-length, fits-bank}

@@ -16,7 +16,7 @@ use Rattle.kernel.specs.Refuse.{leading, toldLeading}
 use Rattle.stored.specs.Fields.{toldField, fieldOf}
 use Rattle.stored.specs.declared.fields.Field.{Field}
 use Rattle.stored.specs.declared.fields.Field.the-variants.{Body, Refused}
-use Rattle.stored.proofs.Buffers.{none-first, none-after}
+use Rattle.rules.proofs.Faults.{none-after, none-first}
 use Rattle.stored.proofs.OneField.{Passed, field-passed, body-told, refused-told}
 
 -- What is left of a list from a position on, as code takes it

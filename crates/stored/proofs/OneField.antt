@@ -20,7 +20,8 @@ use Rattle.kernel.specs.Refuse.{leading, toldLeading}
 use Rattle.stored.specs.Fields.{toldField, fieldOf, Whole}
 use Rattle.stored.specs.declared.fields.Field.{Field}
 use Rattle.stored.specs.declared.fields.Field.the-variants.{Body, Refused}
-use Rattle.stored.proofs.Buffers.{some-fault, none-answered}
+use Rattle.rules.proofs.Faults.{some-fault}
+use Rattle.stored.proofs.Buffers.{none-answered}
 
 -- The tag is the first byte
 pub first-tag : (s : List ℕ) → fieldHeaderBytes ≤ length s → getD s 0 0 ≡ tagOf s

@@ -21,9 +21,10 @@ use Rattle.rules.specs.declared.refusal.Outcome.{Outcome}
 use Rattle.rules.specs.declared.refusal.Outcome.the-variants.{Answered, Refused}
 use Rattle.endian.specs.Put.{patched}
 use Rattle.kernel.specs.Refuse.{leading, toldLeading}
-use Rattle.kernel.proofs.Refusals.{append-refused}
+use Rattle.kernel.proofs.Refusals.{append-refused, none-told, room-short}
 use Rattle.splice.proofs.Pieces.{patched-start}
-use Rattle.stored.proofs.Buffers.{none-told, room-short, room-enough, passes, fills-in}
+use Rattle.rules.proofs.Faults.{room-enough}
+use Rattle.stored.proofs.Buffers.{passes, fills-in}
 use Rattle.stored.proofs.OneField.{Passed, body-length}
 use Rattle.stored.proofs.Forms.{form-passed}
 

@@ -16,7 +16,8 @@ use Rattle.rules.specs.declared.records.PolicySnapshot.{PolicySnapshot}
 use Rattle.endian.proofs.Numbers.{Small}
 use Rattle.bank.proofs.Layouts.{Fitting}
 use Rattle.splice.proofs.Pieces.{patched-start}
-use Rattle.stored.proofs.Buffers.{some-fault, none-first, none-answered, room-enough, passes, fills-in}
+use Rattle.rules.proofs.Faults.{none-first, room-enough, some-fault}
+use Rattle.stored.proofs.Buffers.{none-answered, passes, fills-in}
 use Rattle.stored.proofs.Reading.{stored-read, request-read}
 use Rattle.stored.proofs.FormTrips.{Storable, storable-written, storable-none, storable-read, stored-passes, stored-bank, stored-policy, stored-forth, request-passes, request-says, request-forth}
 

@@ -11,7 +11,7 @@ use Rattle.rules.specs.Bytes.{bytesOf}
 use Rattle.rules.specs.Stored.{fieldBytes, fits, tagOf, bodyLength, bodyOf, afterOf, fieldFaults, formFaults}
 use Rattle.rules.proofs.Choices.{below-no, equal-yes, equal-no}
 use Rattle.endian.proofs.Numbers.{Small, small-take, small-drop, number-bytes, number-one, bytes-number}
-use Rattle.stored.proofs.Buffers.{some-fault}
+use Rattle.rules.proofs.Faults.{some-fault}
 use Rattle.stored.proofs.OneField.{Passed, first-tag, body-length}
 
 -- ---- a field that passes has no fault

@@ -19,7 +19,8 @@ use Rattle.endian.proofs.Numbers.{length-bytes}
 use Rattle.bank.proofs.Trips.{length-policy, length-input}
 use Rattle.kernel.specs.Refuse.{leading, toldLeading}
 use Rattle.stored.specs.Fields.{writingFaults}
-use Rattle.stored.proofs.Buffers.{none-told, none-after, room-passed}
+use Rattle.rules.proofs.Faults.{none-after, room-passed}
+use Rattle.kernel.proofs.Refusals.{none-told}
 
 -- A field has its header before its body
 pub length-field : (tag : ℕ) (body : List ℕ) → length (fieldBytes tag body) ≡ fieldHeaderBytes + length body

@@ -64,10 +64,10 @@ pub fn front_field(form: &[u8], tag: u8) -> Field
     if !fits(tag, n) {
         return Field::Refused(Refusal::WrongLength);
     }
-    if form.len() < FIELD_HEADER_BYTES + n {
-        return Field::Refused(Refusal::CutShort);
+    if FIELD_HEADER_BYTES + n <= form.len() {
+        return Field::Body(n);
     }
-    Field::Body(n)
+    Field::Refused(Refusal::CutShort)
 }
 
 // Whether fields with these tags stand one after the other, then the end, and if not, why: 20, 21, 22 at each field in its turn, then 21

@@ -7,11 +7,7 @@ use lib.ListN.{length, take, getD}
 use lib.Seq.{take-suc}
 use Rattle.rules.specs.Text.{text, decimal, spaced}
 
--- A TEXT IS A BYTE STRING OF CODE: it computes to its bytes, so that `b"lever"` is `text "lever"`; so is every name
-pub lever-text : 108 ∷ 101 ∷ 118 ∷ 101 ∷ 114 ∷ [] ≡ text "lever"
-unfolding text
-lever-text = refl
-
+-- A TEXT IS A BYTE STRING OF CODE: it computes to its bytes, so that `b"-"` is `text "-"`
 pub minus-text : 45 ∷ [] ≡ text "-"
 unfolding text
 minus-text = refl

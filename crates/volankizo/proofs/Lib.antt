@@ -1,2 +1,3 @@
 -- That any two permitted answers are equal.
 pub mod Answers
+pub mod FormAnswers

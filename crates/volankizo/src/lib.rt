@@ -1,8 +1,11 @@
-// The static library's exported functions. They speak bytes and numbers: a policy is 30 bytes, a request 70, a bank 47 for each record.
+// The static library's exported functions: here decisions and what explains, checks and bounds them; in `forms` a record's offset, stored and
+// request forms, printed texts. They speak bytes and numbers: a policy is 30 bytes, a request 70, a bank 47 for each record.
 // A refusal comes back as one word, number + 2^8 field + 2^16 value + 2^32 (id or place), and 0 where the call answered. A refused
 // call writes nothing, but for a trusted bank that was ordered before it was refused. An answer goes to the start of `out`, which
 // overlaps nothing else that is lent, and the bytes after it stay as they were.
 // The promise of each is an equation for the word and one for every byte of each writable buffer, so any two permitted answers are equal.
+pub mod forms;
+
 use boundary::explained_within;
 use boundary::found_within;
 use boundary::margin_within;
@@ -18,6 +21,14 @@ use boundary::win_within;
 use endian::bits;
 use endian::put16;
 use endian::put64;
+pub use forms::volankizo_ask_text;
+pub use forms::volankizo_ask_words;
+pub use forms::volankizo_read_request;
+pub use forms::volankizo_read_stored;
+pub use forms::volankizo_record_at;
+pub use forms::volankizo_unit_text;
+pub use forms::volankizo_write_request;
+pub use forms::volankizo_write_stored;
 use layout::boundary_bytes;
 use layout::decision_bytes;
 use layout::uncounted_bytes;

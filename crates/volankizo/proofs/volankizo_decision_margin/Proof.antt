@@ -9,7 +9,8 @@ use Rattle.rules.specs.declared.refusal.Outcome.{Outcome}
 use Rattle.splice.proofs.Pieces.{patched-start}
 use Rattle.layout.specs.Layout.{boundaryBytes}
 use Rattle.boundary.specs.Boundary.{openingFaults, refusedIn, ifAnswered, toldBounds, marginFaults, marginOf}
-use Rattle.boundary.proofs.Openings.{none-first, opening-room}
+use Rattle.rules.proofs.Faults.{none-first}
+use Rattle.boundary.proofs.Openings.{opening-room}
 use Rattle.boundary.proofs.Bounds.{margin-placeless}
 use Rattle.boundary.proofs.Handed.{Told, refused-place, refused-word, refused-list, answered-none, answered-word, answered-list}
 use Rattle.volankizo.proofs.volankizo_decision_margin.Statement.{statement}

@@ -8,7 +8,8 @@ use Rattle.rules.specs.Numbers.{roomFaults, toldPrescribed}
 use Rattle.splice.proofs.Pieces.{patched-start}
 use Rattle.layout.specs.Layout.{uncountedBytes}
 use Rattle.boundary.specs.Boundary.{openingFaults, explainFaults, explainDecision, explainEntries}
-use Rattle.boundary.proofs.Openings.{none-first, opening-room}
+use Rattle.rules.proofs.Faults.{none-first}
+use Rattle.boundary.proofs.Openings.{opening-room}
 use Rattle.boundary.proofs.Places.{explain-placeless}
 use Rattle.boundary.proofs.Handed.{Told, refused-place, refused-word, refused-list, answered-none, answered-word, answered-list}
 use Rattle.volankizo.proofs.volankizo_explain.Statement.{statement}

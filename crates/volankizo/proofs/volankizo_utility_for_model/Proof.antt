@@ -9,7 +9,8 @@ use borrow.Author.Needs.{needs}
 use Rattle.rules.specs.Numbers.{toldUtility}
 use Rattle.splice.proofs.Pieces.{patched-start}
 use Rattle.boundary.specs.Boundary.{openingFaults, faultsIn, utilityFaults, utilityFrom, utilityOf, utilityBytes}
-use Rattle.boundary.proofs.Openings.{none-first, opening-room}
+use Rattle.rules.proofs.Faults.{none-first}
+use Rattle.boundary.proofs.Openings.{opening-room}
 use Rattle.boundary.proofs.Places.{utility-placeless}
 use Rattle.boundary.proofs.Handed.{Told, refused-place, refused-word, refused-list, answered-none, answered-word, answered-list}
 use Rattle.volankizo.proofs.volankizo_utility_for_model.Statement.{statement}

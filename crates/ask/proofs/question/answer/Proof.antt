@@ -8,7 +8,7 @@ use Rattle.ask.proofs.question.answer.Tie as tie
 use Rattle.ask.proofs.question.answer.Reads as reads
 use Rattle.ask.proofs.question.answer.Lts as lts
 use Rattle.printed.proofs.ask_text.Reads as ask-text-reads
-use Rattle.printed.proofs.ask_words.Reads as ask-words-reads
+use Rattle.words.proofs.ask_words.Reads as ask-words-reads
 
 -- src/question.rt:72:25
 enum-known-question : tie.Need-enum-known-question

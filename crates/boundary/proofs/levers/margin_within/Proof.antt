@@ -3,9 +3,9 @@ use mathlib.Core.Path.{_≡_, refl, sym, _∙_}
 use mathlib.Core.List.{[]}
 use denote.Ref.{now}
 use borrow.Author.Needs.{needs}
-use Rattle.kernel.proofs.Refusals.{unless-refused, append-refused}
+use Rattle.kernel.proofs.Refusals.{unless-refused, append-refused, none-told}
 use Rattle.boundary.specs.Boundary.{openingFaults}
-use Rattle.boundary.proofs.Openings.{none-passed, opening-policy, opening-request}
+use Rattle.boundary.proofs.Openings.{opening-policy, opening-request}
 use Rattle.boundary.proofs.Bounds.{told-refused, margin-passed}
 use Rattle.boundary.proofs.levers.margin_within.Statement.{statement}
 use Rattle.boundary.proofs.levers.margin_within.Tie as tie
@@ -18,7 +18,7 @@ returns c =
 
 -- the tests passed
 none : (c : tie.After-enum-told) → let a = c .before .before .before .before .before .before .args in openingFaults (now (a .policy)) (now (a .request)) (now (a .bank)) 183 (a .room) ≡ []
-none c = none-passed _ (c .enum-told .given .1) (c .before .before .opening-outcome .ensures)
+none c = none-told _ (c .enum-told .given .1) (c .before .before .opening-outcome .ensures)
 
 policy-of-requires : tie.Need-policy-of-requires
 policy-of-requires c κs =

@@ -1,8 +1,8 @@
 -- `boundary::found_within` meets its contract. Assumes nothing.
 use mathlib.Core.Path.{sym}
 use borrow.Author.Needs.{needs}
-use Rattle.kernel.proofs.Refusals.{unless-refused}
-use Rattle.boundary.proofs.Openings.{none-passed, found-passed}
+use Rattle.kernel.proofs.Refusals.{unless-refused, none-told}
+use Rattle.boundary.proofs.Openings.{found-passed}
 use Rattle.boundary.proofs.within.found_within.Statement.{statement}
 use Rattle.boundary.proofs.within.found_within.Tie as tie
 
@@ -11,7 +11,7 @@ returns c = sym (unless-refused _ _ (c .before .outcome .given .1) (c .before .b
 
 returns-2 : tie.Need-returns-2
 returns-2 c =
-    found-passed _ _ _ (none-passed _ (c .before .enum-told .given .1) (c .before .before .before .lent-outcome .ensures)) (c .find .ensures)
+    found-passed _ _ _ (none-told _ (c .before .enum-told .given .1) (c .before .before .before .lent-outcome .ensures)) (c .find .ensures)
 
 pub found-within-spec : {M : Type 1} → statement M
 found-within-spec =

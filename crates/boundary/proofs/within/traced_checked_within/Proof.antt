@@ -1,37 +1,29 @@
 -- `boundary::traced_checked_within` meets its contract. Assumes nothing.
-use mathlib.Core.Path.{_≡_, refl, sym}
+use mathlib.Core.Path.{_≡_, sym}
 use mathlib.Core.List.{[]}
 use denote.Ref.{now}
 use borrow.Author.Needs.{needs}
-use Rattle.kernel.proofs.Refusals.{unless-refused, append-refused}
-use Rattle.boundary.specs.Boundary.{openingFaults}
-use Rattle.boundary.proofs.Openings.{none-passed, opening-policy, opening-request, checked-passed}
+use Rattle.kernel.proofs.Refusals.{unless-refused, none-told}
+use Rattle.boundary.specs.Boundary.{prescribeCheckedFaults}
+use Rattle.rules.proofs.Faults.{none-first}
+use Rattle.boundary.proofs.Openings.{opening-lent, all-passed}
 use Rattle.boundary.proofs.within.traced_checked_within.Statement.{statement}
 use Rattle.boundary.proofs.within.traced_checked_within.Tie as tie
 
 returns : tie.Need-returns
-returns c =
-    sym (unless-refused _ _ refl (append-refused _ _ (c .before .outcome .given .1) (c .before .before .before .opening-outcome .ensures)))
+returns c = sym (unless-refused _ _ (c .before .outcome .given .1) (c .before .before .before .checked-opening .ensures))
 
 -- the tests passed
-none : (c : tie.After-enum-told) → let a = c .before .before .before .before .before .before .args in openingFaults (now (a .policy)) (now (a .request)) (now (a .bank)) 83 (a .room) ≡ []
-none c = none-passed _ (c .enum-told .given .1) (c .before .before .opening-outcome .ensures)
+none : (c : tie.After-enum-told) → let a = c .before .before .before .before .before .before .args in prescribeCheckedFaults (now (a .policy)) (now (a .request)) (now (a .bank)) (a .room) ≡ []
+none c = none-told _ (c .enum-told .given .1) (c .before .before .checked-opening .ensures)
 
-policy-of-requires : tie.Need-policy-of-requires
-policy-of-requires c κs =
+traced-lent-requires : tie.Need-traced-lent-requires
+traced-lent-requires c κs =
     let a = c .before .before .before .before .before .before .args in
-    opening-policy (now (a .policy)) (now (a .request)) (now (a .bank)) 83 (a .room) (none c)
-
-input-of-requires : tie.Need-input-of-requires
-input-of-requires c κs =
-    let a = c .before .before .before .before .before .before .before .args in
-    opening-request (now (a .policy)) (now (a .request)) (now (a .bank)) 83 (a .room) (none (c .before))
+    opening-lent (now (a .policy)) (now (a .request)) (now (a .bank)) 83 (a .room) (none-first _ _ (none c))
 
 returns-2 : tie.Need-returns-2
-returns-2 c =
-    let i = c .before in
-    let a = i .before .before .before .before .before .before .before .before .args in
-    checked-passed (now (a .policy)) (now (a .request)) (now (a .bank)) (a .room) (i .before .policy-of .ensures) (i .input-of .ensures) (none (i .before .before)) (c .prescribe-with-trace-checked .ensures)
+returns-2 c = all-passed _ (none (c .before)) (c .traced-lent .ensures)
 
 pub traced-checked-within-spec : {M : Type 1} → statement M
 traced-checked-within-spec =
@@ -41,7 +33,5 @@ traced-checked-within-spec =
     (λ c. search needs)
     returns
     (λ c. search needs)
-    policy-of-requires
-    input-of-requires
-    (λ c κs. search needs)
+    traced-lent-requires
     returns-2)

@@ -3,35 +3,26 @@ use mathlib.Core.Path.{_≡_, sym}
 use mathlib.Core.List.{[]}
 use denote.Ref.{now}
 use borrow.Author.Needs.{needs}
-use Rattle.kernel.proofs.Refusals.{unless-refused}
-use Rattle.boundary.specs.Boundary.{openingFaults}
-use Rattle.boundary.proofs.Openings.{none-passed, opening-policy, opening-request, traced-passed}
+use Rattle.kernel.proofs.Refusals.{unless-refused, none-told}
+use Rattle.boundary.specs.Boundary.{prescribeFaults}
+use Rattle.boundary.proofs.Openings.{opening-lent, all-passed}
 use Rattle.boundary.proofs.within.traced_within.Statement.{statement}
 use Rattle.boundary.proofs.within.traced_within.Tie as tie
 
 returns : tie.Need-returns
-returns c =
-    sym (unless-refused _ _ (c .before .outcome .given .1) (c .before .before .before .opening-outcome .ensures))
+returns c = sym (unless-refused _ _ (c .before .outcome .given .1) (c .before .before .before .opening-outcome .ensures))
 
 -- the tests passed
-none : (c : tie.After-enum-told) → let a = c .before .before .before .before .before .before .args in openingFaults (now (a .policy)) (now (a .request)) (now (a .bank)) 83 (a .room) ≡ []
-none c = none-passed _ (c .enum-told .given .1) (c .before .before .opening-outcome .ensures)
+none : (c : tie.After-enum-told) → let a = c .before .before .before .before .before .before .args in prescribeFaults (now (a .policy)) (now (a .request)) (now (a .bank)) (a .room) ≡ []
+none c = none-told _ (c .enum-told .given .1) (c .before .before .opening-outcome .ensures)
 
-policy-of-requires : tie.Need-policy-of-requires
-policy-of-requires c κs =
+traced-lent-requires : tie.Need-traced-lent-requires
+traced-lent-requires c κs =
     let a = c .before .before .before .before .before .before .args in
-    opening-policy (now (a .policy)) (now (a .request)) (now (a .bank)) 83 (a .room) (none c)
-
-input-of-requires : tie.Need-input-of-requires
-input-of-requires c κs =
-    let a = c .before .before .before .before .before .before .before .args in
-    opening-request (now (a .policy)) (now (a .request)) (now (a .bank)) 83 (a .room) (none (c .before))
+    opening-lent (now (a .policy)) (now (a .request)) (now (a .bank)) 83 (a .room) (none c)
 
 returns-2 : tie.Need-returns-2
-returns-2 c =
-    let i = c .before in
-    let a = i .before .before .before .before .before .before .before .before .args in
-    traced-passed (now (a .policy)) (now (a .request)) (now (a .bank)) (a .room) (i .before .policy-of .ensures) (i .input-of .ensures) (none (i .before .before)) (c .prescribe-with-trace .ensures)
+returns-2 c = all-passed _ (none (c .before)) (c .traced-lent .ensures)
 
 pub traced-within-spec : {M : Type 1} → statement M
 traced-within-spec =
@@ -41,7 +32,5 @@ traced-within-spec =
     (λ c. search needs)
     returns
     (λ c. search needs)
-    policy-of-requires
-    input-of-requires
-    (λ c κs. search needs)
+    traced-lent-requires
     returns-2)

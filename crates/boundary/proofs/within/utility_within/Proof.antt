@@ -3,9 +3,9 @@ use mathlib.Core.Path.{_≡_, refl, sym}
 use mathlib.Core.List.{[]}
 use denote.Ref.{now}
 use borrow.Author.Needs.{needs}
-use Rattle.kernel.proofs.Refusals.{unless-refused, append-refused}
+use Rattle.kernel.proofs.Refusals.{unless-refused, append-refused, none-told}
 use Rattle.boundary.specs.Boundary.{openingFaults}
-use Rattle.boundary.proofs.Openings.{none-passed, opening-policy, opening-request, utility-passed}
+use Rattle.boundary.proofs.Openings.{opening-policy, opening-request, utility-passed}
 use Rattle.boundary.proofs.within.utility_within.Statement.{statement}
 use Rattle.boundary.proofs.within.utility_within.Tie as tie
 
@@ -15,7 +15,7 @@ returns c =
 
 -- the tests passed
 none : (c : tie.After-enum-told) → let a = c .before .before .before .before .before .before .args in openingFaults (now (a .policy)) (now (a .request)) (now (a .bank)) 8 (a .room) ≡ []
-none c = none-passed _ (c .enum-told .given .1) (c .before .before .opening-outcome .ensures)
+none c = none-told _ (c .enum-told .given .1) (c .before .before .opening-outcome .ensures)
 
 policy-of-requires : tie.Need-policy-of-requires
 policy-of-requires c κs =

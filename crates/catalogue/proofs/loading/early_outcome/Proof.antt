@@ -1,7 +1,8 @@
 -- `catalogue::early_outcome` meets its contract: 1 and 2, 16, 17. Assumes nothing.
 use borrow.Author.Needs.{needs}
 use Rattle.rules.specs.Trust.{earlyFaults}
-use Rattle.catalogue.proofs.Stages.{passed, stopped, stops}
+use Rattle.kernel.proofs.Refusals.{none-told}
+use Rattle.catalogue.proofs.Stages.{stopped, stops}
 use Rattle.catalogue.proofs.loading.early_outcome.Statement.{statement}
 use Rattle.catalogue.proofs.loading.early_outcome.Tie as tie
 
@@ -18,7 +19,7 @@ returns-2 c =
     let o = c .before in
     let b = o .before .before .before in
     let e = o .reserved .given .1 in
-    rw (passed _ (b .enum-told .given .1) (b .before .before .bank-outcome .ensures))
+    rw (none-told _ (b .enum-told .given .1) (b .before .before .bank-outcome .ensures))
     (stopped _ e (stops _ _ e (o .before .before .reserved-outcome .ensures)))
 
 returns-3 : tie.Need-returns-3
@@ -26,7 +27,7 @@ unfolding earlyFaults
 returns-3 c =
     let o = c .before in
     let b = o .before .before .before in
-    rw (passed _ (b .enum-told .given .1) (b .before .before .bank-outcome .ensures), passed _ (o .enum-told2 .given .1) (o .before .before .reserved-outcome .ensures))
+    rw (none-told _ (b .enum-told .given .1) (b .before .before .bank-outcome .ensures), none-told _ (o .enum-told2 .given .1) (o .before .before .reserved-outcome .ensures))
     (c .flag-outcome .ensures)
 
 pub early-outcome-spec : {M : Type 1} → statement M

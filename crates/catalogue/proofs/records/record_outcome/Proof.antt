@@ -1,7 +1,8 @@
 -- `catalogue::record_outcome` meets its contract: 12, then 13 and 14. Assumes nothing.
 use borrow.Author.Needs.{needs}
 use Rattle.rules.specs.Validate.{recordFaults}
-use Rattle.catalogue.proofs.Stages.{passed, stopped, stops}
+use Rattle.kernel.proofs.Refusals.{none-told}
+use Rattle.catalogue.proofs.Stages.{stopped, stops}
 use Rattle.catalogue.proofs.records.record_outcome.Statement.{statement}
 use Rattle.catalogue.proofs.records.record_outcome.Tie as tie
 
@@ -17,7 +18,7 @@ unfolding recordFaults
 returns-2 c =
     let m = c .before in
     let o = m .before in
-    rw (passed _ (o .enum-told .given .1) (o .before .before .repeat-outcome .ensures), ← m .model-at .ensures) (c .model-outcome .ensures)
+    rw (none-told _ (o .enum-told .given .1) (o .before .before .repeat-outcome .ensures), ← m .model-at .ensures) (c .model-outcome .ensures)
 
 pub record-outcome-spec : {M : Type 1} → statement M
 record-outcome-spec =

@@ -1,4 +1,4 @@
--- `catalogue::records_outcome` meets its contract. The loop's invariant: no record passed is refused. Assumes nothing.
+-- `catalogue::records_outcome` meets its contract. The loop's invariant: no record none-told is refused. Assumes nothing.
 use Prim.Native.Nat.{_-_, _≤_}
 use native.Mathlib.Omega.{arith}
 use mathlib.Core.Path.{_≡_, refl, ap, sym, _∙_}
@@ -8,7 +8,8 @@ use Rattle.rules.specs.Records.{listedOf}
 use Rattle.rules.specs.Validate.{recordsFaults}
 use Rattle.kernel.specs.Refuse.{leading, toldLeading}
 use Rattle.catalogue.specs.Ids.{risesFrom}
-use Rattle.catalogue.proofs.Stages.{passed, stopped, stops}
+use Rattle.kernel.proofs.Refusals.{none-told}
+use Rattle.catalogue.proofs.Stages.{stopped, stops}
 use Rattle.catalogue.proofs.Walks.{ids, recordsLeft, records-next, records-end}
 use Rattle.catalogue.proofs.records.records_outcome.Statement.{statement}
 use Rattle.catalogue.proofs.records.records_outcome.Tie as tie
@@ -34,7 +35,7 @@ loop-again : tie.Need-loop-again Inv-loop μ-loop
 loop-again c =
     let o = c in
     let l = o .before .before .before .before .loop in
-    (omega arith, l .inv .1, l .inv .2 ∙ records-next _ (l .i) (omega arith) ∙ rw (passed _ (o .enum-told .given .1) (o .before .before .record-outcome .ensures)))
+    (omega arith, l .inv .1, l .inv .2 ∙ records-next _ (l .i) (omega arith) ∙ rw (none-told _ (o .enum-told .given .1) (o .before .before .record-outcome .ensures)))
 
 returns-2 : tie.Need-returns-2 Inv-loop μ-loop
 unfolding leading toldLeading

@@ -2,7 +2,8 @@
 use borrow.Author.Needs.{needs}
 use Rattle.rules.specs.Validate.{catalogFaults}
 use Rattle.rules.specs.declared.refusal.Refusal.the-variants.{EmptyCatalog}
-use Rattle.catalogue.proofs.Stages.{passed, stopped, stops, tells}
+use Rattle.kernel.proofs.Refusals.{none-told}
+use Rattle.catalogue.proofs.Stages.{stopped, stops, tells}
 use Rattle.catalogue.proofs.Walks.{empty-yes, empty-no}
 use Rattle.catalogue.proofs.validation.catalog_outcome.Statement.{statement}
 use Rattle.catalogue.proofs.validation.catalog_outcome.Tie as tie
@@ -18,7 +19,7 @@ returns-2 : tie.Need-returns-2
 unfolding catalogFaults
 returns-2 c =
     let o = c .before in
-    rw (passed _ (o .enum-told .given .1) (o .before .before .policy-outcome .ensures), empty-yes _ (c .if1 .taken)) (tells EmptyCatalog _)
+    rw (none-told _ (o .enum-told .given .1) (o .before .before .policy-outcome .ensures), empty-yes _ (c .if1 .taken)) (tells EmptyCatalog _)
 
 returns-3 : tie.Need-returns-3
 unfolding catalogFaults
@@ -27,7 +28,7 @@ returns-3 c =
     let n = r .before .before .before in
     let o = n .before in
     let e = r .records .given .1 in
-    rw (passed _ (o .enum-told .given .1) (o .before .before .policy-outcome .ensures), empty-no _ (n .if1 .left))
+    rw (none-told _ (o .enum-told .given .1) (o .before .before .policy-outcome .ensures), empty-no _ (n .if1 .left))
     (stopped _ e (stops _ _ e (r .before .before .records-outcome .ensures)))
 
 returns-4 : tie.Need-returns-4
@@ -37,9 +38,9 @@ returns-4 c =
     let n = r .before .before .before in
     let o = n .before in
     rw (
-      passed _ (o .enum-told .given .1) (o .before .before .policy-outcome .ensures),
+      none-told _ (o .enum-told .given .1) (o .before .before .policy-outcome .ensures),
       empty-no _ (n .if1 .left),
-      passed _ (r .enum-told2 .given .1) (r .before .before .records-outcome .ensures),
+      none-told _ (r .enum-told2 .given .1) (r .before .before .records-outcome .ensures),
     )
     (c .off-outcome .ensures)
 

@@ -1,8 +1,8 @@
 -- `catalogue::validate` meets its contract: 1 and 2, then the catalogue. Assumes nothing.
 use borrow.Author.Needs.{needs}
 use Rattle.rules.specs.Validate.{validateOf}
-use Rattle.kernel.proofs.Refusals.{leading-told}
-use Rattle.catalogue.proofs.Stages.{passed, stopped, stops}
+use Rattle.kernel.proofs.Refusals.{leading-told, none-told}
+use Rattle.catalogue.proofs.Stages.{stopped, stops}
 use Rattle.catalogue.proofs.validation.validate.Statement.{statement}
 use Rattle.catalogue.proofs.validation.validate.Tie as tie
 
@@ -17,7 +17,7 @@ returns-2 : tie.Need-returns-2
 unfolding validateOf
 returns-2 c =
     let o = c .before in
-    rw (passed _ (o .enum-told .given .1) (o .before .before .bank-outcome .ensures)) (leading-told _ _ (c .catalog-outcome .ensures))
+    rw (none-told _ (o .enum-told .given .1) (o .before .before .bank-outcome .ensures)) (leading-told _ _ (c .catalog-outcome .ensures))
 
 pub validate-spec : {M : Type 1} → statement M
 validate-spec =

@@ -2,20 +2,20 @@
 use borrow.Author.Needs.{needs}
 use native.Mathlib.Omega.{arith}
 use mathlib.Core.Path.{ap}
-use Rattle.searches.specs.Search.{passesIn}
+use Rattle.rules.specs.Halving.{passesOf}
 use Rattle.counterfactual.proofs.Rooms.{joined-one, push-passes}
 use Rattle.counterfactual.proofs.levers.note_price.Statement.{statement}
 use Rattle.counterfactual.proofs.levers.note_price.Tie as tie
 
 add-pass : tie.Need-add-pass
-add-pass c = omega (arith, ap passesIn (c .before .before .before .found .given .1))
+add-pass c = omega (arith, ap passesOf (c .before .before .before .found .given .1))
 
 pass-requires : tie.Need-pass-requires
 pass-requires c κs =
-    omega (arith, push-passes _ _ (c .push .ensures), ap passesIn (c .before .before .before .found .given .1))
+    omega (arith, push-passes _ _ (c .push .ensures), ap passesOf (c .before .before .before .found .given .1))
 
 pass-requires-2 : tie.Need-pass-requires-2
-pass-requires-2 c κs = omega (arith, ap passesIn (c .before .found2 .given .1))
+pass-requires-2 c κs = omega (arith, ap passesOf (c .before .found2 .given .1))
 
 returns : tie.Need-returns
 returns c =

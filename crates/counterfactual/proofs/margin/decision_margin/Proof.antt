@@ -2,9 +2,9 @@
 use borrow.Author.Needs.{needs}
 use mathlib.Core.Path.{refl, sym, _∙_}
 use Rattle.rules.specs.Margin.{decisionMarginOf}
-use Rattle.kernel.proofs.Refusals.{bank-room}
+use Rattle.kernel.proofs.Refusals.{bank-room, none-told}
 use Rattle.kernel.proofs.Finding.{found-at}
-use Rattle.counterfactual.proofs.Listed.{without, with-place, boundary-passed, boundary-refused, no-faults, stands-at, answer-made}
+use Rattle.counterfactual.proofs.Listed.{without, with-place, boundary-passed, boundary-refused, stands-at, answer-made}
 use Rattle.counterfactual.proofs.Margins.{margin-rejected, margin-nowhere, margin-listed}
 use Rattle.counterfactual.proofs.margin.decision_margin.Statement.{statement}
 use Rattle.counterfactual.proofs.margin.decision_margin.Tie as tie
@@ -56,7 +56,7 @@ margin-levers-requires c κs =
     let o = f .before .before .before .before in
     stands-at _ _ _ _ _ (c .asked-at .ensures)
     (with-place (k .found .given .1) (f .first-listed .ensures))
-    (no-faults _ (o .enum-told .given .1) (o .before .before .bank-outcome .ensures))
+    (none-told _ (o .enum-told .given .1) (o .before .before .bank-outcome .ensures))
 
 returns-4 : tie.Need-returns-4
 unfolding decisionMarginOf

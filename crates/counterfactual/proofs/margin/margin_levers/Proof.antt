@@ -4,11 +4,10 @@ use Prim.Native.Nat.{_≤_}
 use native.Mathlib.Omega.{arith}
 use mathlib.Core.Path.{ap}
 use Rattle.rules.specs.Choice.{equal}
-use Rattle.rules.specs.Halving.{Lowest, Highest}
+use Rattle.rules.specs.Halving.{Lowest, Highest, passesOf}
 use Rattle.rules.specs.Margin.{marginLevers}
 use Rattle.searches.specs.Lever.{widest}
 use Rattle.searches.specs.Asked.{questionOf}
-use Rattle.searches.specs.Search.{passesIn}
 use Rattle.counterfactual.specs.Levers.{Room}
 use Rattle.searches.proofs.Searches.{search-few, far-few}
 use Rattle.counterfactual.proofs.Notes.{note-passes, price-passes, four-noted}
@@ -45,7 +44,7 @@ lowest-above-requires c κs =
 
 -- ---- the passes are few
 
-quality-few : (c : tie.After-lowest-true) → passesIn (c .lowest-true .result) ≤ 65
+quality-few : (c : tie.After-lowest-true) → passesOf (c .lowest-true .result) ≤ 65
 quality-few c =
     let known = c .before .before .struct-known3 .given in
     search-few Lowest _ _ _ (c .lowest-true .ensures) (omega arith)

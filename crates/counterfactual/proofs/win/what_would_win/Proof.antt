@@ -2,9 +2,9 @@
 use borrow.Author.Needs.{needs}
 use mathlib.Core.Path.{sym, _∙_}
 use Rattle.rules.specs.Win.{whatWouldWinOf}
-use Rattle.kernel.proofs.Refusals.{bank-room}
+use Rattle.kernel.proofs.Refusals.{bank-room, none-told}
 use Rattle.kernel.proofs.Finding.{found-at}
-use Rattle.counterfactual.proofs.Listed.{without, with-place, boundary-passed, boundary-refused, no-faults, stands-at}
+use Rattle.counterfactual.proofs.Listed.{without, with-place, boundary-passed, boundary-refused, stands-at}
 use Rattle.counterfactual.proofs.Wins.{win-nowhere, win-listed}
 use Rattle.counterfactual.proofs.win.what_would_win.Statement.{statement}
 use Rattle.counterfactual.proofs.win.what_would_win.Tie as tie
@@ -39,7 +39,7 @@ win-for-requires c κs =
     let o = f .before in
     stands-at _ _ _ _ _ (c .asked-at .ensures)
     (with-place (k .found .given .1) (f .first-listed .ensures))
-    (no-faults _ (o .enum-told .given .1) (o .before .before .bank-outcome .ensures))
+    (none-told _ (o .enum-told .given .1) (o .before .before .bank-outcome .ensures))
 
 returns-3 : tie.Need-returns-3
 unfolding whatWouldWinOf

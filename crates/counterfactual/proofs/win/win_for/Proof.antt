@@ -3,7 +3,7 @@ use borrow.Author.Needs.{needs}
 use mathlib.Core.Path.{sym, ap, _∙_}
 use Rattle.rules.specs.Levers.{selects}
 use Rattle.searches.specs.Asked.{questionOf}
-use Rattle.searches.proofs.Passes.{few-records}
+use Rattle.rules.proofs.Faults.{few-records}
 use Rattle.counterfactual.proofs.Listed.{empty-room, answer-made}
 use Rattle.counterfactual.proofs.Wins.{win-stopped, win-selected, win-sought}
 use Rattle.counterfactual.proofs.win.win_for.Statement.{statement}

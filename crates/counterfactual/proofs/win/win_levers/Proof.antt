@@ -4,11 +4,10 @@ use Prim.Native.Nat.{_≤_}
 use native.Mathlib.Omega.{arith}
 use mathlib.Core.Path.{ap}
 use Rattle.rules.specs.Choice.{equal}
-use Rattle.rules.specs.Halving.{Lowest, Highest}
+use Rattle.rules.specs.Halving.{Lowest, Highest, passesOf}
 use Rattle.rules.specs.Win.{winLevers}
 use Rattle.searches.specs.Lever.{widest}
 use Rattle.searches.specs.Asked.{questionOf}
-use Rattle.searches.specs.Search.{passesIn}
 use Rattle.counterfactual.specs.Levers.{Room}
 use Rattle.searches.proofs.Searches.{search-few}
 use Rattle.counterfactual.proofs.Notes.{note-passes, price-passes, four-noted}
@@ -47,7 +46,7 @@ lowest-true-requires-2 c κs =
 
 -- ---- the passes are few
 
-latency-few : (c : tie.After-highest-true) → passesIn (c .highest-true .result) ≤ 65
+latency-few : (c : tie.After-highest-true) → passesOf (c .highest-true .result) ≤ 65
 latency-few c =
     let known = c .before .before .before .before .struct-known3 .given in
     search-few Highest _ _ _ (c .highest-true .ensures) (omega arith)

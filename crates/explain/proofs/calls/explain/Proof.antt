@@ -5,7 +5,7 @@ use borrow.Author.Needs.{needs}
 use Rattle.rules.specs.Numbers.{bankFaults, answered}
 use Rattle.rules.specs.Explain.{explainFaults, explainOf, explainList}
 use Rattle.kernel.proofs.Refusals.{unless-passed, unless-refused, checked-room}
-use Rattle.explain.proofs.Rooms.{room-passed, list-passed, list-refused}
+use Rattle.explain.proofs.Rooms.{room-there, list-passed, list-refused}
 use Rattle.explain.proofs.calls.explain.Statement.{statement}
 use Rattle.explain.proofs.calls.explain.Tie as tie
 
@@ -21,7 +21,7 @@ put-explanation-requires c κs =
     let o = c .before in
     let told = o .before .before .explain-outcome .ensures in
     let a = o .before .before .before .before .before .args in
-    (checked-room _ _ (o .enum-told .given .1) told, room-passed (bankFaults (now (a .bank))) _ _ (o .enum-told .given .1) told)
+    (checked-room _ _ (o .enum-told .given .1) told, room-there (bankFaults (now (a .bank))) _ _ (o .enum-told .given .1) told)
 
 decide-requires : tie.Need-decide-requires
 decide-requires c κs =

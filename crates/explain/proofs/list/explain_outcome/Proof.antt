@@ -1,8 +1,8 @@
 -- `explain::explain_outcome` meets its contract. Assumes nothing.
 use mathlib.Core.Path.{sym, _∙_}
 use borrow.Author.Needs.{needs}
-use Rattle.kernel.proofs.Refusals.{append-passed, append-refused, bank-room}
-use Rattle.explain.proofs.Rooms.{room-short, room-enough}
+use Rattle.kernel.proofs.Refusals.{append-passed, append-refused, bank-room, room-short}
+use Rattle.explain.proofs.Rooms.{room-open}
 use Rattle.explain.proofs.list.explain_outcome.Statement.{statement}
 use Rattle.explain.proofs.list.explain_outcome.Tie as tie
 
@@ -18,13 +18,13 @@ returns-2 : tie.Need-returns-2
 returns-2 c =
     let n = c .before in
     let o = n .before in
-    sym (append-passed _ _ (o .enum-told .given .1) (o .before .before .bank-outcome .ensures) ∙ room-short _ _ (rw (n .needed .ensures) at (c .if1 .taken)))
+    sym (append-passed _ _ (o .enum-told .given .1) (o .before .before .bank-outcome .ensures) ∙ sym (room-short _ _ (rw (n .needed .ensures) at (c .if1 .taken))))
 
 returns-3 : tie.Need-returns-3
 returns-3 c =
     let n = c .before in
     let o = n .before in
-    sym (append-passed _ _ (o .enum-told .given .1) (o .before .before .bank-outcome .ensures) ∙ room-enough _ _ (rw (n .needed .ensures) at (c .if1 .left)))
+    sym (append-passed _ _ (o .enum-told .given .1) (o .before .before .bank-outcome .ensures) ∙ room-open _ _ (rw (n .needed .ensures) at (c .if1 .left)))
 
 pub explain-outcome-spec : {M : Type 1} → statement M
 explain-outcome-spec =

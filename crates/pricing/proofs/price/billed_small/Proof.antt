@@ -9,7 +9,7 @@ use Rattle.pricing.proofs.price.billed_small.Statement.{statement}
 use Rattle.pricing.proofs.price.billed_small.Tie as tie
 
 known : (c : tie.Start) → c .args .tokens * c .args .price ≤ (2 ^ 32 - 1) * (2 ^ 32 - 1)
-known c = product-le 32 32 (omega arith) (c .pre)
+known c = c .pre
 
 returns : tie.Need-returns
 unfolding billed

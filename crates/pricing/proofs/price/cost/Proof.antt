@@ -2,8 +2,19 @@
 use native.Mathlib.Omega.{arith}
 use borrow.Author.Needs.{needs}
 use Rattle.rules.specs.Price.{billed, costOf}
+use Rattle.pricing.proofs.Values.{limit-fits}
 use Rattle.pricing.proofs.price.cost.Statement.{statement}
 use Rattle.pricing.proofs.price.cost.Tie as tie
+
+billed-small-requires : tie.Need-billed-small-requires
+billed-small-requires c κs =
+    let s = c .before .before .before .args in
+    limit-fits (s .input .«input_tokens») (s .input .«output_tokens») (s .model .«input_cost_microunits_per_million_tokens») (omega arith) (omega arith) (omega arith) .0
+
+billed-small-requires-2 : tie.Need-billed-small-requires-2
+billed-small-requires-2 c κs =
+    let s = c .before .before .before .before .args in
+    limit-fits (s .input .«input_tokens») (s .input .«output_tokens») (s .model .«output_cost_microunits_per_million_tokens») (omega arith) (omega arith) (omega arith) .1
 
 returns : tie.Need-returns
 unfolding costOf
@@ -18,7 +29,8 @@ cost-spec =
     tie.close
     (tie.spec
     (λ c κs. search needs)
-    (λ c κs. search needs)
+    billed-small-requires
+    billed-small-requires-2
     (λ c. search needs)
     returns
     (λ c κs. search needs)

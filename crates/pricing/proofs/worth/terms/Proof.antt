@@ -16,6 +16,10 @@ returns c =
     let e = c .before .before .share-small .ensures .0 ∙ t in
     c .terms-small .ensures ∙ (λ i. scoredTerms (e i) (s .pr .«risk_penalty») (s .cost) (c .before .late-small .ensures i))
 
+returns-2 : tie.Need-returns-2
+unfolding termsWith
+returns-2 c = c .terms-exact .ensures
+
 pub terms-spec : {M : Type 1} → statement M
 terms-spec =
     tie.close
@@ -26,4 +30,4 @@ terms-spec =
     (λ c κs. search needs)
     returns
     (λ c κs. search needs)
-    (λ c. search needs))
+    returns-2)

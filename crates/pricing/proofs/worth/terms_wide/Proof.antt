@@ -1,61 +1,11 @@
--- `pricing::worth::terms_wide` meets its contract: no sum of the four terms comes near 2 ^ 126. Assumes nothing.
-use mathlib.Core.Path.{_≡_, ap, ap₂, _∙_}
-use Prim.Native.Nat.{_+_, _*_, _^_, _<_}
-use native.Mathlib.Omega.{arith}
-use borrow.Author.Needs.{needs}
-use Rattle.rules.specs.Wide.{val}
-use Rattle.rules.specs.Utility.{shareOf}
-use Rattle.pricing.specs.Score.{scoreOf}
-use Rattle.pricing.specs.Pricing.{scoredTerms, termsWith}
-use Rattle.rules.proofs.Limbs.{wide-val}
-use Rattle.pricing.proofs.Values.{product-le, share-lt, wide-is}
+-- `pricing::worth::terms_wide` meets its contract. Assumes nothing.
+use Rattle.pricing.specs.Pricing.{termsWith}
 use Rattle.pricing.proofs.worth.terms_wide.Statement.{statement}
 use Rattle.pricing.proofs.worth.terms_wide.Tie as tie
 
--- the latency term, and the quality term
-late : (c : tie.Start) → c .args .model .«p95_latency_ms» * c .args .pr .«latency_pen_per_ms» < 2 ^ 96
-late c = let s = c .args in omega (arith, product-le 32 64 {a = s .model .«p95_latency_ms»} {b = s .pr .«latency_pen_per_ms»} (omega arith) (omega arith))
-
-good : (c : tie.Start) → shareOf (c .args .pr .value) (c .args .pr .«confidence_bps») (c .args .model .«quality_bps») < 2 ^ 70
-good c = share-lt (omega arith) (omega arith) (omega arith)
-
-sure : (c : tie.After-share) → val (c .share .result) ≡ shareOf (c .before .args .pr .value) (c .before .args .pr .«confidence_bps») (c .before .args .model .«quality_bps»)
-sure c = ap val (c .share .ensures) ∙ wide-val _
-
-add-requires : tie.Need-add-requires
-add-requires c κs = omega (arith, late (c .before .before .before .before .before))
-
-add-requires-2 : tie.Need-add-requires-2
-add-requires-2 c κs = omega (arith, late (c .before .before .before .before .before .before), c .before .before .before .before .before .before .pre .room, c .before .before .before .product .ensures, c .before .of-one .ensures, c .add .ensures)
-
-score-wide-requires : tie.Need-score-wide-requires
-score-wide-requires c κs = omega (arith, good (c .before .before .before .before .before .before .before), sure (c .before .before .before .before .before .before))
-
 returns : tie.Need-returns
-unfolding termsWith scoredTerms
-returns c =
-    let s = c .before .before .before .before .before .before .before .before .args in
-    let q = c .before .before .before .before .before .product in
-    let l : val (c .before .add2 .result) ≡ val (s .pr .«risk_penalty») + (s .cost + s .model .«p95_latency_ms» * s .pr .«latency_pen_per_ms») = omega (arith, q .ensures, c .before .before .before .of-one .ensures, c .before .before .add .ensures, c .before .add2 .ensures) in
-    let e = c .score-wide .ensures ∙ ap₂ scoreOf (sure (c .before .before .before .before .before .before .before)) l in
-    let w = wide-is (q .result) _ (omega arith) (q .ensures) in
-    λ i. record {
-      «quality_adjusted» = c .before .before .before .before .before .before .before .share .ensures i;
-      «risk_penalty» = s .pr .«risk_penalty»;
-      «cost_microunits» = s .cost;
-      «latency_penalty» = w i;
-      score = e i;
-    }
+unfolding termsWith
+returns c = c .terms-exact .ensures
 
 pub terms-wide-spec : {M : Type 1} → statement M
-terms-wide-spec =
-    tie.close
-    (tie.spec
-    (λ c κs. search needs)
-    (λ c. search needs)
-    (λ c κs. search needs)
-    (λ c κs. search needs)
-    add-requires
-    add-requires-2
-    score-wide-requires
-    returns)
+terms-wide-spec = tie.close (tie.spec (λ c κs. c .before .pre .room) returns)

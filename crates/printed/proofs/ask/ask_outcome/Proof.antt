@@ -3,8 +3,8 @@ use mathlib.Core.Path.{_≡_}
 use mathlib.Core.List.{[]}
 use denote.Ref.{now}
 use Rattle.rules.specs.Printed.{programFaults}
-use Rattle.stored.proofs.Buffers.{none-told}
-use Rattle.printed.proofs.Tests.{program-formed, bank-few}
+use Rattle.kernel.proofs.Refusals.{none-told}
+use Rattle.inputs.proofs.Tests.{program-formed, bank-few}
 use Rattle.printed.proofs.Asks.{asking-refused, asking-listed, asking-unlisted, asking-never}
 use borrow.Author.Needs.{needs}
 use Rattle.printed.proofs.ask.ask_outcome.Statement.{statement}

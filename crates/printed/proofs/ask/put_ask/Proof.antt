@@ -5,9 +5,9 @@ use denote.Ref.{now}
 use Rattle.rules.specs.Numbers.{Boundary}
 use Rattle.rules.specs.Printed.{askFaults, askReport, askText}
 use Rattle.splice.proofs.Pieces.{written-as}
-use Rattle.stored.proofs.Buffers.{none-told}
-use Rattle.printed.specs.Lines.{Formed}
-use Rattle.printed.proofs.Tests.{program-formed}
+use Rattle.kernel.proofs.Refusals.{none-told}
+use Rattle.inputs.specs.Opening.{Formed}
+use Rattle.inputs.proofs.Tests.{program-formed}
 use Rattle.printed.proofs.Reports.{refused-text, passed-text}
 use Rattle.printed.proofs.Asks.{asking-passed, win-told}
 use borrow.Author.Needs.{needs}

@@ -5,8 +5,8 @@ use denote.Ref.{now}
 use Rattle.rules.specs.Records.{listedOf}
 use Rattle.rules.specs.Printed.{unitReport, unitText, programFaults}
 use Rattle.splice.proofs.Pieces.{written-as}
-use Rattle.stored.proofs.Buffers.{none-told}
-use Rattle.printed.proofs.Tests.{program-formed, bank-whole}
+use Rattle.kernel.proofs.Refusals.{none-told}
+use Rattle.inputs.proofs.Tests.{program-formed, bank-whole}
 use Rattle.printed.proofs.Reports.{refused-text, passed-text}
 use borrow.Author.Needs.{needs}
 use Rattle.printed.proofs.unit.put_unit.Statement.{statement}

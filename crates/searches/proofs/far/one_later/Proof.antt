@@ -2,15 +2,15 @@
 use borrow.Author.Needs.{needs}
 use mathlib.Core.Path.{ap}
 use native.Mathlib.Omega.{arith}
-use Rattle.searches.specs.Search.{passesIn}
+use Rattle.rules.specs.Halving.{passesOf}
 use Rattle.searches.proofs.far.one_later.Statement.{statement}
 use Rattle.searches.proofs.far.one_later.Tie as tie
 
 add-t6 : tie.Need-add-t6
-add-t6 c = omega (arith, ap passesIn (c .before .found .given .1))
+add-t6 c = omega (arith, ap passesOf (c .before .found .given .1))
 
 add-t7 : tie.Need-add-t7
-add-t7 c = omega (arith, ap passesIn (c .before .found2 .given .1))
+add-t7 c = omega (arith, ap passesOf (c .before .found2 .given .1))
 
 returns : tie.Need-returns
 returns c = rw (c .before .found .given .1)

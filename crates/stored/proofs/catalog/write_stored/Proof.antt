@@ -11,7 +11,8 @@ use Rattle.kernel.specs.Refuse.{leading}
 use Rattle.bank.proofs.Trips.{length-policy}
 use Rattle.splice.proofs.Pieces.{written-then, written-as}
 use Rattle.stored.specs.Fields.{writingFaults}
-use Rattle.stored.proofs.Buffers.{none-told, fills, stays}
+use Rattle.kernel.proofs.Refusals.{none-told}
+use Rattle.stored.proofs.Buffers.{fills, stays}
 use Rattle.stored.proofs.Writing.{length-field, writing-refuses, writing-room}
 use Rattle.stored.proofs.catalog.write_stored.Statement.{statement}
 use Rattle.stored.proofs.catalog.write_stored.Tie as tie

@@ -15,13 +15,13 @@ returns-4 c =
 returns-5 : tie.Need-returns-5
 returns-5 c =
     let h = c .before .before .before .before .before .before in
-    field-short _ _ (h .if2 .left) (c .before .before .before .before .if3 .left) _ (c .before .before .before .u16-at .ensures)
+    field-body _ _ (h .if2 .left) (c .before .before .before .before .if3 .left) _ (c .before .before .before .u16-at .ensures)
     (sym (c .before .before .fits2 .ensures) ∙ not-false _ (c .before .if4 .left)) (c .if5 .taken)
 
 returns-6 : tie.Need-returns-6
 returns-6 c =
     let h = c .before .before .before .before .before .before in
-    field-body _ _ (h .if2 .left) (c .before .before .before .before .if3 .left) _ (c .before .before .before .u16-at .ensures)
+    field-short _ _ (h .if2 .left) (c .before .before .before .before .if3 .left) _ (c .before .before .before .u16-at .ensures)
     (sym (c .before .before .fits2 .ensures) ∙ not-false _ (c .before .if4 .left)) (c .if5 .left)
 
 pub front-field-spec : {M : Type 1} → statement M

@@ -3,7 +3,9 @@ use mathlib.Core.Path.{refl, ap}
 use native.Mathlib.Omega.{arith}
 use Rattle.rules.specs.Stored.{fieldBytes, requestForm, writeRequestOf, writeRequestBuffer}
 use Rattle.splice.proofs.Pieces.{written-as}
-use Rattle.stored.proofs.Buffers.{room-short, room-enough, fills, stays}
+use Rattle.rules.proofs.Faults.{room-enough}
+use Rattle.kernel.proofs.Refusals.{room-short}
+use Rattle.stored.proofs.Buffers.{fills, stays}
 use Rattle.stored.proofs.Writing.{length-request}
 use borrow.Author.Needs.{needs}
 use Rattle.stored.proofs.request.write_request.Statement.{statement}

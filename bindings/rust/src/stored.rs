@@ -1,0 +1,44 @@
+//! Policies with their banks, and requests, as fields of tag, length and body.
+use crate::bank::Bank;
+use crate::ffi;
+use crate::layout::{stored_form_bytes, Fields, REQUEST_BYTES, REQUEST_FORM_BYTES, STORED_POLICY_BYTES};
+use crate::records::{KernelInput, PolicySnapshot};
+use crate::refusal::Refusal;
+
+/// The stored form of a policy with its bank: the fields of tags 1 and 2. Refusals: 1, 2, 18.
+pub fn write_stored(policy: &PolicySnapshot, bank: &[u8]) -> Result<Vec<u8>, Refusal> {
+    let mut out = vec![0; stored_form_bytes(bank.len())];
+    Refusal::told(ffi::write_stored(&policy.to_bytes(), bank, &mut out))?;
+    Ok(out)
+}
+
+/// The policy and the bank of a stored form. Neither is validated, and the order is kept. Refusals: 20, 21, 22.
+pub fn read_stored(form: &[u8]) -> Result<(PolicySnapshot, Bank), Refusal> {
+    let mut bank = vec![0; form.len()];
+    let (policy, bytes) = read_stored_into(form, &mut bank)?;
+    bank.truncate(bytes);
+    Ok((policy, Bank::from_bytes(bank)))
+}
+
+/// The same into a lent buffer: the policy, and how many bytes of the buffer the bank took. Those after it stay. Refusals, with the
+/// buffer as it was: 20, 21, 22, 4.
+pub fn read_stored_into(form: &[u8], bank: &mut [u8]) -> Result<(PolicySnapshot, usize), Refusal> {
+    let mut out = [0; STORED_POLICY_BYTES];
+    Refusal::told(ffi::read_stored(form, bank, &mut out))?;
+    let mut fields = Fields(&out);
+    Ok((PolicySnapshot::taken(&mut fields), fields.u64() as usize))
+}
+
+/// The request form: the field of tag 3. Never refused.
+pub fn write_request(input: KernelInput) -> Result<[u8; REQUEST_FORM_BYTES], Refusal> {
+    let mut out = [0; REQUEST_FORM_BYTES];
+    Refusal::told(ffi::write_request(&input.to_bytes(), &mut out))?;
+    Ok(out)
+}
+
+/// The request of a request form. Refusals: 20, 21, 22.
+pub fn read_request(form: &[u8]) -> Result<KernelInput, Refusal> {
+    let mut out = [0; REQUEST_BYTES];
+    Refusal::told(ffi::read_request(form, &mut out))?;
+    Ok(KernelInput::from_bytes(&out))
+}

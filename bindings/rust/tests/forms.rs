@@ -1,0 +1,87 @@
+//! Stored form, request form and texts: round trips, and the worked example's bytes and lines.
+mod common;
+use common::{example_bank, many, Source, POLICY, REQUEST, UNIT_INPUT};
+use volankizo::{
+    ask_text, ask_words, read_request, read_stored, read_stored_into, unit_text, write_request, write_stored, Bank,
+    KernelInput, PolicySnapshot, MAX_STORED_MODELS,
+};
+
+const LINES: &str = "\
+decision 42 2 2 2 1 300 6200 1 5200 2 2 7 3
+rejected 0 0 0 0 0 0 0 0 0
+lever 1 8000 7000 -
+lever 2 50 150 -
+lever 3 1000000 4330000 1299
+lever 4 8000 1000 -
+";
+
+#[test]
+fn the_example_in_bytes() {
+    let form = write_stored(&POLICY, &example_bank()).unwrap();
+    let request = write_request(REQUEST).unwrap();
+    assert_eq!([&form[..], &request].concat(), UNIT_INPUT);
+    assert_eq!(read_stored(&UNIT_INPUT[..130]), Ok((POLICY, example_bank())));
+    assert_eq!(read_request(&UNIT_INPUT[130..]), Ok(REQUEST));
+}
+
+#[test]
+fn what_was_written_is_read_and_written_again() {
+    let mut source = Source(5);
+    for models in [0, 1, 2, 3, 17, 900, MAX_STORED_MODELS] {
+        let policy = PolicySnapshot::from_bytes(&source.bytes(30).try_into().unwrap());
+        let bank = Bank::from_bytes(source.bytes(47 * models));
+        let form = write_stored(&policy, &bank).unwrap();
+        assert_eq!(form.len(), 36 + bank.len());
+        let (read, models) = read_stored(&form).unwrap();
+        assert_eq!((read, &models), (policy, &bank));
+        assert_eq!(write_stored(&read, &models), Ok(form));
+    }
+    for _ in 0..100 {
+        let input = KernelInput::from_bytes(&source.bytes(70).try_into().unwrap());
+        let form = write_request(input).unwrap();
+        assert_eq!(read_request(&form), Ok(input));
+    }
+}
+
+#[test]
+fn reading_leaves_the_rest_of_the_buffer() {
+    let form = write_stored(&POLICY, &example_bank()).unwrap();
+    let mut buffer = vec![0xaa; 120];
+    assert_eq!(read_stored_into(&form, &mut buffer), Ok((POLICY, 94)));
+    assert_eq!(buffer[..94], example_bank()[..]);
+    assert!(buffer[94..].iter().all(|byte| *byte == 0xaa));
+    let empty = write_stored(&POLICY, &[]).unwrap();
+    assert_eq!(read_stored_into(&empty, &mut []), Ok((POLICY, 0)));
+}
+
+#[test]
+fn the_six_lines() {
+    assert_eq!(unit_text(UNIT_INPUT).unwrap(), LINES);
+}
+
+#[test]
+fn a_rejection_has_two_lines() {
+    let mut input = write_stored(&POLICY, &example_bank()).unwrap();
+    input.extend(write_request(KernelInput { risk_bps: 9_000, ..REQUEST }).unwrap());
+    let text = unit_text(&input).unwrap();
+    assert_eq!(text.lines().collect::<Vec<_>>()[0], "decision 42 3 100 0 65535 0 0 0 0 0 0 7 3");
+    assert_eq!(text.lines().count(), 2);
+}
+
+#[test]
+fn the_desks_question() {
+    let text = ask_text(UNIT_INPUT, 1).unwrap();
+    assert_eq!(text, "decision 42 2 2 2 1 300 6200 1 5200 2 2 7 3\nlever 3 1000000 443333 798\npasses 26\n");
+    let words = ask_words(UNIT_INPUT, 1).unwrap();
+    assert!(words.ends_with('\n') && words.contains("44.3333"), "{words}");
+    assert_ne!(text, words);
+    assert_eq!(ask_text(UNIT_INPUT, 3).unwrap(), "refused 5\n");
+}
+
+#[test]
+fn the_longest_texts_have_room() {
+    let mut input = write_stored(&POLICY, &many(900)).unwrap();
+    input.extend(write_request(REQUEST).unwrap());
+    assert!(unit_text(&input).unwrap().starts_with("decision 42 1 1 1 0 300 6200 2 6200 900 900 7 3\n"));
+    assert!(ask_words(&input, 900).unwrap().ends_with('\n'));
+}

@@ -1,0 +1,137 @@
+//! That every field of an answer is read from its own place: values that all differ, and all the verdicts.
+mod common;
+use common::{Source, FIRST, POLICY, REQUEST};
+use volankizo::layout::EXPLANATION_BYTES;
+use volankizo::{
+    next_eligible, Bank, CandidateExplanation, CandidateVerdict, GateKind, KernelInput, KernelModel, KernelReason,
+    PolicySnapshot, RejectionHistogram,
+};
+
+/// Every gate can be failed alone.
+const STRICT: KernelInput = KernelInput {
+    risk_bps: 4_000,
+    max_p95_latency_ms: 200,
+    required_capabilities: 3,
+    allowed_provider_mask: 0b1001,
+    required_region_mask: 4,
+    ..REQUEST
+};
+
+/// A model that passes `STRICT`.
+const SOUND: KernelModel = KernelModel {
+    provider_id: 3,
+    quality_bps: 10_000,
+    risk_ceiling_bps: 5_000,
+    p95_latency_ms: 150,
+    region_mask: 6,
+    ..FIRST
+};
+
+/// A model for each way of falling out, by the order of the counts; the sixth has two ways.
+fn failing() -> [KernelModel; 10] {
+    [
+        KernelModel { enabled: 0, ..SOUND },
+        KernelModel { quality_bps: 4_999, ..SOUND },
+        KernelModel { risk_ceiling_bps: 3_999, ..SOUND },
+        KernelModel { p95_latency_ms: 201, ..SOUND },
+        KernelModel { capabilities: 5, ..SOUND },
+        KernelModel { provider_id: 2, ..SOUND },
+        KernelModel { region_mask: 3, ..SOUND },
+        KernelModel { output_cost_microunits_per_million_tokens: 48_000_000, ..SOUND },
+        KernelModel { output_cost_microunits_per_million_tokens: 45_000_000, ..SOUND },
+        KernelModel { provider_id: 64, ..SOUND },
+    ]
+}
+
+#[test]
+fn nine_different_counts() {
+    let models = failing();
+    let bank: Bank = (0..9).flat_map(|way| vec![models[way]; way + 1]).chain([SOUND]).collect();
+    let (decision, trace) = POLICY.prescribe_with_trace(&bank, STRICT).unwrap();
+    let counts = RejectionHistogram {
+        disabled: 1,
+        quality: 2,
+        risk_ceiling: 3,
+        latency: 4,
+        capability: 5,
+        provider: 6,
+        region: 7,
+        budget: 8,
+        utility: 9,
+    };
+    assert_eq!(trace.rejections, counts);
+    assert_eq!((trace.evaluated_models, trace.eligible_models), (46, 1));
+    assert_eq!((decision.selected_model_index, decision.counterfactual_model_id), (45, 0));
+}
+
+#[test]
+fn the_reason_of_each_way() {
+    let reasons = [102, 103, 110, 104, 105, 106, 107, 108, 109, 106];
+    for (model, reason) in failing().into_iter().zip(reasons) {
+        let decision = POLICY.prescribe(&Bank::from_models(&[model]), STRICT).unwrap();
+        assert_eq!((decision.reason.number(), decision.action.number()), (reason, 3), "{model:?}");
+    }
+    assert!(KernelReason::RiskHardLimit.stops_request() && !KernelReason::NoEnabledModel.stops_request());
+}
+
+#[test]
+fn the_verdict_of_each_way() {
+    use GateKind::*;
+    let gate = |gate, measured, limit| CandidateVerdict::Rejected { gate, measured, limit };
+    let told = POLICY.explain(&Bank::from_models(&failing()), STRICT).unwrap().candidates;
+    let owed = [
+        gate(Disabled, 0, 1),
+        gate(Quality, 4_999, 5_000),
+        gate(RiskCeiling, 4_000, 3_999),
+        gate(Latency, 201, 200),
+        gate(Capability, 5, 3),
+        gate(ProviderNotAllowed, 2, 0b1001),
+        gate(Region, 3, 4),
+        CandidateVerdict::OverBudget { cost_microunits: 5_100, limit_microunits: 5_000 },
+    ];
+    for (place, (entry, verdict)) in told.iter().zip(owed).enumerate() {
+        assert_eq!((entry.model_id, usize::from(entry.model_index), entry.verdict), (1, place, verdict));
+    }
+    let CandidateVerdict::NonPositiveUtility(terms) = told[8].verdict else { panic!("{:?}", told[8]) };
+    assert_eq!((terms.quality_adjusted, terms.risk_penalty, terms.latency_penalty), (10_000, 4_000, 1_500));
+    assert_eq!((terms.cost_microunits, terms.utility), (4_800, -300));
+    assert_eq!(told[9].verdict, gate(ProviderUnrepresentable, 64, 63));
+}
+
+#[test]
+fn terms_beyond_64_bits() {
+    let policy = PolicySnapshot { latency_penalty_microunits_per_ms: u64::MAX, ..POLICY };
+    let model = KernelModel { p95_latency_ms: u32::MAX, ..FIRST };
+    let told = policy.explain(&Bank::from_models(&[model]), REQUEST).unwrap().candidates;
+    let CandidateVerdict::NonPositiveUtility(terms) = told[0].verdict else { panic!("{:?}", told[0]) };
+    assert_eq!(terms.latency_penalty, i128::from(u64::MAX) * i128::from(u32::MAX));
+    assert_eq!(terms.utility, i64::MIN);
+}
+
+#[test]
+fn a_lent_list() {
+    let bank = Bank::from_models(&[failing()[1], SOUND, failing()[0], KernelModel { model_id: 9, ..SOUND }]);
+    let mut list = vec![0xaa; 5 * EXPLANATION_BYTES];
+    let decision = POLICY.explain_into(&bank, STRICT, &mut list).unwrap();
+    assert_eq!(decision, POLICY.prescribe(&bank, STRICT).unwrap());
+    let (filled, after) = list.split_at(4 * EXPLANATION_BYTES);
+    assert!(after.iter().all(|byte| *byte == 0xaa));
+    let read =
+        filled.chunks_exact(EXPLANATION_BYTES).map(|entry| CandidateExplanation::from_bytes(entry.try_into().unwrap()));
+    assert_eq!(read.collect::<Option<Vec<_>>>().unwrap(), POLICY.explain(&bank, STRICT).unwrap().candidates);
+    let places = [0, 1, 2, 3, 4, u64::MAX].map(|from| next_eligible(filled, from).unwrap());
+    assert_eq!(places, [Some(1), Some(1), Some(3), Some(3), None, None]);
+}
+
+#[test]
+fn bytes_and_values_are_one_to_one() {
+    let mut source = Source(11);
+    for _ in 0..1_000 {
+        let record: [u8; 47] = source.bytes(47).try_into().unwrap();
+        assert_eq!(KernelModel::from_bytes(&record).to_bytes(), record);
+        let request: [u8; 70] = source.bytes(70).try_into().unwrap();
+        assert_eq!(KernelInput::from_bytes(&request).to_bytes(), request);
+        let policy: [u8; 30] = source.bytes(30).try_into().unwrap();
+        assert_eq!(PolicySnapshot::from_bytes(&policy).to_bytes(), policy);
+    }
+}

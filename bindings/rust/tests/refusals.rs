@@ -1,0 +1,216 @@
+//! Each refusal through the safe calls, with its values, and that a refused call leaves what it was lent.
+mod common;
+use common::{example_bank, many, FIRST, POLICY, REQUEST, SECOND, UNIT_INPUT};
+use volankizo::layout::EXPLANATION_BYTES;
+use volankizo::{
+    check_request, decision_margin, find, models, read_request, read_stored, read_stored_into, record_at, unit_text,
+    what_would_win, write_request, write_stored, Bank, KernelInput, KernelModel, PolicySnapshot, Refusal,
+};
+
+fn two(first: KernelModel, second: KernelModel) -> Bank {
+    Bank::from_models(&[first, second])
+}
+
+/// What every call that takes a bank says of one that isn't whole or is too large.
+fn every_refusal_of(bank: &[u8]) -> Vec<Refusal> {
+    let mut list = vec![0; 72];
+    let mut copy = bank.to_vec();
+    let refused = vec![
+        POLICY.prescribe(bank, REQUEST).unwrap_err(),
+        POLICY.prescribe_checked(bank, REQUEST).unwrap_err(),
+        POLICY.utility_for_model(bank, REQUEST, 1).unwrap_err(),
+        POLICY.explain(bank, REQUEST).unwrap_err(),
+        POLICY.explain_into(bank, REQUEST, &mut list).unwrap_err(),
+        POLICY.validate(bank).unwrap_err(),
+        POLICY.trust(&mut copy).unwrap_err(),
+        find(bank, 1).unwrap_err(),
+        record_at(bank, 0).unwrap_err(),
+        models(bank).unwrap_err(),
+        what_would_win(&POLICY, bank, REQUEST, 1).unwrap_err(),
+        decision_margin(&POLICY, bank, REQUEST).unwrap_err(),
+        write_stored(&POLICY, bank).unwrap_err(),
+    ];
+    assert!(copy == bank && list.iter().all(|byte| *byte == 0));
+    refused
+}
+
+#[test]
+fn number_1_and_2_of_every_call() {
+    let uneven = &example_bank()[..93];
+    assert!(every_refusal_of(uneven).iter().all(|refusal| *refusal == Refusal::UnevenBank));
+    let large = many(65_536);
+    assert!(every_refusal_of(&large).iter().all(|refusal| *refusal == Refusal::CatalogTooLarge));
+    assert_eq!((Refusal::UnevenBank.number(), Refusal::CatalogTooLarge.number()), (1, 2));
+}
+
+#[test]
+fn number_3_by_field() {
+    let high = [
+        (1, 10_001, KernelInput { risk_bps: 10_001, confidence_bps: 10_002, ..REQUEST }),
+        (2, 10_002, KernelInput { confidence_bps: 10_002, minimum_quality_bps: 10_003, ..REQUEST }),
+        (3, 65_535, KernelInput { minimum_quality_bps: 65_535, ..REQUEST }),
+    ];
+    for (field, value, request) in high {
+        let refusal = Refusal::InputOutOfRange { field, value, place: 0 };
+        assert_eq!(check_request(request), Err(refusal));
+        assert_eq!(POLICY.prescribe_checked(&example_bank(), request), Err(refusal));
+        assert_eq!(POLICY.prescribe_with_trace_checked(&example_bank(), request), Err(refusal));
+        assert!(POLICY.prescribe(&example_bank(), request).is_ok());
+        assert_eq!(refusal.number(), 3);
+    }
+    assert_eq!(check_request(REQUEST), Ok(()));
+}
+
+#[test]
+fn number_4_leaves_the_list_and_the_buffer() {
+    let bank = example_bank();
+    let mut list = vec![0xaa; 2 * EXPLANATION_BYTES - 1];
+    assert_eq!(POLICY.explain_into(&bank, REQUEST, &mut list), Err(Refusal::NoRoom));
+    assert!(list.iter().all(|byte| *byte == 0xaa));
+    let stopped = KernelInput { risk_bps: 9_000, ..REQUEST };
+    assert!(POLICY.explain_into(&bank, stopped, &mut []).is_ok(), "a stopped request needs no room");
+    let form = write_stored(&POLICY, &bank).unwrap();
+    let mut buffer = vec![0xaa; 93];
+    assert_eq!(read_stored_into(&form, &mut buffer), Err(Refusal::NoRoom));
+    assert!(buffer.iter().all(|byte| *byte == 0xaa));
+    assert_eq!(Refusal::NoRoom.number(), 4);
+}
+
+#[test]
+fn numbers_5_to_8() {
+    let bank = example_bank();
+    let stopped = KernelInput { risk_bps: 9_000, ..REQUEST };
+    assert_eq!(what_would_win(&POLICY, &bank, REQUEST, 3), Err(Refusal::UnknownModel));
+    assert_eq!(what_would_win(&POLICY, &bank, stopped, 3), Err(Refusal::UnknownModel));
+    assert_eq!(decision_margin(&POLICY, &bank, stopped), Err(Refusal::NothingSelected));
+    assert_eq!(POLICY.utility_for_model(&bank, stopped, 1), Err(Refusal::NotEligible));
+    assert_eq!(POLICY.utility_for_model(&bank, REQUEST, 3), Err(Refusal::NotEligible));
+    let off = two(KernelModel { enabled: 0, ..FIRST }, FIRST);
+    assert_eq!(POLICY.utility_for_model(&off, REQUEST, 1), Err(Refusal::NotEligible));
+    assert_eq!(record_at(&bank, 2), Err(Refusal::BeyondBank));
+    assert_eq!(record_at(&bank, u64::MAX), Err(Refusal::BeyondBank));
+    assert_eq!(record_at(&[], 0), Err(Refusal::BeyondBank));
+    let all = [Refusal::UnknownModel, Refusal::NothingSelected, Refusal::NotEligible, Refusal::BeyondBank];
+    assert_eq!(all.map(Refusal::number), [5, 6, 7, 8]);
+}
+
+#[test]
+fn number_10_by_field() {
+    let high = [
+        (4, 10_001, PolicySnapshot { hard_risk_limit_bps: 10_001, minimum_confidence_bps: 10_002, ..POLICY }),
+        (5, 10_002, PolicySnapshot { minimum_confidence_bps: 10_002, risk_penalty_multiplier_bps: 50_001, ..POLICY }),
+        (6, 50_001, PolicySnapshot { risk_penalty_multiplier_bps: 50_001, ..POLICY }),
+    ];
+    for (field, value, policy) in high {
+        let refusal = Refusal::PolicyOutOfRange { field, value };
+        assert_eq!(policy.validate(&[]), Err(refusal));
+        let mut bank = two(SECOND, FIRST);
+        assert_eq!(policy.trust(&mut bank), Err(refusal));
+        assert_eq!(bank, example_bank(), "10 comes after the ordering");
+        assert_eq!(refusal.number(), 10);
+    }
+}
+
+#[test]
+fn numbers_11_to_15() {
+    let faults = [
+        (11, Bank::default(), Refusal::EmptyCatalog),
+        (12, two(FIRST, KernelModel { provider_id: 64, ..FIRST }), Refusal::DuplicateModelId { model_id: 1 }),
+        (
+            13,
+            two(FIRST, KernelModel { provider_id: 64, quality_bps: 10_001, ..SECOND }),
+            Refusal::InvalidProviderId { model_id: 2, provider_id: 64 },
+        ),
+        (
+            14,
+            two(KernelModel { quality_bps: 10_001, risk_ceiling_bps: 10_002, ..FIRST }, SECOND),
+            Refusal::ModelOutOfRange { field: 7, model_id: 1, value: 10_001 },
+        ),
+        (
+            14,
+            two(FIRST, KernelModel { risk_ceiling_bps: 65_535, ..SECOND }),
+            Refusal::ModelOutOfRange { field: 8, model_id: 2, value: 65_535 },
+        ),
+        (15, two(KernelModel { enabled: 0, ..FIRST }, KernelModel { enabled: 0, ..SECOND }), Refusal::NoEnabledModels),
+    ];
+    for (number, mut bank, refusal) in faults {
+        assert_eq!(POLICY.validate(&bank), Err(refusal));
+        assert_eq!(POLICY.trust(&mut bank), Err(refusal));
+        assert_eq!(refusal.number(), number);
+    }
+}
+
+#[test]
+fn numbers_16_and_17_leave_the_bank() {
+    let flagged = KernelModel { model_id: 5, enabled: 2, ..FIRST };
+    let faults = [
+        (16, two(flagged, KernelModel { model_id: 0, ..FIRST }), Refusal::ReservedModelId),
+        (
+            17,
+            two(flagged, KernelModel { enabled: 255, ..FIRST }),
+            Refusal::InvalidEnabledFlag { model_id: 5, value: 2 },
+        ),
+    ];
+    for (number, mut bank, refusal) in faults {
+        let before = bank.clone();
+        assert_eq!(POLICY.trust(&mut bank), Err(refusal));
+        assert_eq!((bank, refusal.number()), (before, number));
+    }
+}
+
+#[test]
+fn number_18_and_the_programs_19() {
+    assert_eq!(write_stored(&POLICY, &many(1_395)), Err(Refusal::TooManyToStore));
+    assert_eq!(Refusal::TooManyToStore.number(), 18);
+    let mut input = write_stored(&POLICY, &many(1_394)).unwrap();
+    input.extend(write_request(REQUEST).unwrap());
+    assert_eq!(unit_text(&input).unwrap(), "refused 19\n");
+}
+
+#[test]
+fn numbers_20_to_22_of_forms() {
+    let form = write_stored(&POLICY, &example_bank()).unwrap();
+    let with = |at: usize, byte: u8| {
+        let mut changed = form.clone();
+        changed[at] = byte;
+        changed
+    };
+    let one_more = [&form[..], &[0]].concat();
+    let faults: [(&[u8], Refusal); 9] = [
+        (&[], Refusal::WrongTag),
+        (&[1], Refusal::CutShort),
+        (&[9, 0, 0], Refusal::WrongTag),
+        (&form[..33], Refusal::WrongTag),
+        (&form[..form.len() - 1], Refusal::CutShort),
+        (&with(1, 31), Refusal::WrongLength),
+        (&with(34, 93), Refusal::WrongLength),
+        (&with(33, 1), Refusal::WrongTag),
+        (&one_more, Refusal::WrongTag),
+    ];
+    for (form, refusal) in faults {
+        let mut buffer = vec![0xaa; 200];
+        assert_eq!(read_stored_into(form, &mut buffer), Err(refusal));
+        assert_eq!(read_stored(form), Err(refusal));
+        assert!(buffer.iter().all(|byte| *byte == 0xaa));
+    }
+    let request = write_request(REQUEST).unwrap();
+    assert_eq!(read_request(&request[..72]), Err(Refusal::CutShort));
+    assert_eq!(read_request(&form), Err(Refusal::WrongTag));
+    assert_eq!(read_request(&[3, 69, 0]), Err(Refusal::WrongLength));
+    let all = [Refusal::CutShort, Refusal::WrongTag, Refusal::WrongLength];
+    assert_eq!(all.map(Refusal::number), [20, 21, 22]);
+}
+
+#[test]
+fn a_refusal_says_what_is_wrong() {
+    let said = POLICY.validate(&two(FIRST, FIRST)).unwrap_err().to_string();
+    assert_eq!(said, "refused 12: model 1 is listed twice");
+    let said = check_request(KernelInput { confidence_bps: 10_002, ..REQUEST }).unwrap_err().to_string();
+    assert_eq!(said, "refused 3: the request's confidence_bps is 10002");
+}
+
+#[test]
+fn what_the_program_refuses_is_its_text() {
+    assert_eq!(unit_text(&[]).unwrap(), "refused 21\n");
+    assert_eq!(unit_text(&UNIT_INPUT[..202]).unwrap(), "refused 20\n");
+}

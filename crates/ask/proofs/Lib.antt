@@ -1,0 +1,2 @@
+-- The laws of what the arguments ask.
+pub mod Questions

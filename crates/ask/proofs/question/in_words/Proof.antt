@@ -1,0 +1,22 @@
+-- `ask::question::in_words` meets its contract. Assumes nothing.
+use Rattle.ask.specs.Question.{inWords}
+use borrow.Author.Needs.{needs}
+use Rattle.ask.proofs.question.in_words.Statement.{statement}
+use Rattle.ask.proofs.question.in_words.Tie as tie
+
+returns : tie.Need-returns
+unfolding inWords
+returns c = rw (c .before .question .given .1)
+
+returns-2 : tie.Need-returns-2
+unfolding inWords
+returns-2 c = rw (c .before .question2 .given .1)
+
+returns-3 : tie.Need-returns-3
+unfolding inWords
+returns-3 c = rw (c .enum-told .given .1)
+
+pub in-words-spec : {M : Type 1} → statement M
+in-words-spec =
+    tie.close
+    (tie.spec (λ c. search needs) (λ c. search needs) (λ c. search needs) returns returns-2 returns-3)

@@ -1,0 +1,119 @@
+// The calls that are tried, by their numbers. What a call answers is told as one number.
+ghost use Prim.Native.Nat.{_≤_};
+ghost use lib.ListN.{length};
+use crate::example::AFTER_BANK;
+use crate::example::BANK;
+use crate::example::END;
+use crate::example::example;
+use crate::example::policy;
+use crate::example::request;
+use bank::input_bytes;
+use bank::policy_bytes;
+use printed::ask_text;
+use printed::unit_text;
+use rules::Refusal;
+use rules::RequestRead;
+use rules::StoredRead;
+use rules::Written;
+use stored::read_request;
+use stored::read_stored;
+use stored::write_request;
+use stored::write_stored;
+use words::ask_words;
+
+// Readers of an input; the first three print.
+pub(crate) const UNIT: u8 = 0;
+
+pub(crate) const ASK: u8 = 1;
+
+pub(crate) const STORED: u8 = 3;
+
+pub(crate) const REQUEST: u8 = 4;
+
+// A refusal is told as its number above this one, and anything else as a number of bytes.
+pub(crate) const REFUSED: usize = 1_000_000;
+
+// A policy or a request that isn't the example's.
+const ANOTHER: usize = 2_000_000;
+
+fn refused(refusal: Refusal) -> usize {
+    REFUSED + refusal.number() as usize
+}
+
+fn written(answer: Written) -> usize {
+    match answer {
+        Written::Bytes(n) => n,
+        Written::Refused(refusal) => refused(refusal),
+    }
+}
+
+fn print(call: u8, input: &[u8], id: u32, out: &mut [u8]) -> usize {
+    if call == UNIT {
+        return written(unit_text(input, out));
+    }
+    if call == ASK {
+        return written(ask_text(input, id, out));
+    }
+    written(ask_words(input, id, out))
+}
+
+// Each of these hands a call the first bytes of a buffer alone.
+pub(crate) fn print_into(call: u8, input: &[u8], id: u32, out: &mut [u8], room: usize) -> usize
+    requires { ⌜ room ≤ length (now out) ⌝ }
+{
+    print(call, input, id, &mut out[0..room])
+}
+
+// The size, if the bytes are those of a part of the example.
+fn if_example(bytes: &[u8], start: usize, end: usize, size: usize) -> usize
+    requires { ⌜ (start ≤ end) × (end ≤ 203) ⌝ }
+{
+    let input = example();
+    if check::same(bytes, &input[start..end]) {
+        return size;
+    }
+    ANOTHER
+}
+
+fn bank_read(read: StoredRead) -> usize {
+    match read {
+        StoredRead::Refused(refusal) => refused(refusal),
+        StoredRead::Read(policy, size) => {
+            let body = policy_bytes(policy);
+            if_example(&body, 3, BANK, size)
+        }
+    }
+}
+
+// Told as the bank's size.
+pub(crate) fn read_into(form: &[u8], out: &mut [u8], room: usize) -> usize
+    requires { ⌜ room ≤ length (now out) ⌝ }
+{
+    bank_read(read_stored(form, &mut out[0..room]))
+}
+
+// Told as 0.
+pub(crate) fn request_read(form: &[u8]) -> usize {
+    let read = read_request(form);
+    match read {
+        RequestRead::Refused(refusal) => refused(refusal),
+        RequestRead::Read(request) => {
+            let body = input_bytes(request);
+            if_example(&body, AFTER_BANK + 3, END, 0)
+        }
+    }
+}
+
+// The example's policy with a bank.
+pub(crate) fn write_into(bank: &[u8], out: &mut [u8], room: usize) -> usize
+    requires { ⌜ room ≤ length (now out) ⌝ }
+{
+    written(write_stored(policy(), bank, &mut out[0..room]))
+}
+
+// The example's request.
+pub(crate) fn write_request_into(out: &mut [u8], room: usize) -> usize
+    requires { ⌜ room ≤ length (now out) ⌝ }
+{
+    written(write_request(request(), &mut out[0..room]))
+}

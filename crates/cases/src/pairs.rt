@@ -1,0 +1,126 @@
+// Group 6: each fault alone and each two together. What is tested first is what is told.
+ghost use Prim.Native.Nat.{_+_, _≤_};
+ghost use lib.ListN.{length};
+use crate::example::MODELS;
+use crate::faults::ALL_OFF;
+use crate::faults::BANK_CUT;
+use crate::faults::EMPTY;
+use crate::faults::FAULTS;
+use crate::faults::TOO_MANY;
+use crate::faults::UNLISTED;
+use crate::faults::changed_at;
+use crate::faults::changed_to;
+use crate::faults::end_for;
+use crate::faults::number_for;
+use crate::forms::prints_part;
+use crate::inputs::Models;
+use crate::inputs::put_input;
+use crate::tally::Seen;
+use crate::tally::judged;
+use endian::put16;
+
+// The printing calls.
+pub(crate) const CALLS: usize = 3;
+
+// 901 models, the request, and one byte more.
+const SPACE: usize = 42_457;
+
+// No bank is both empty and too long, and the body of an empty one can't be cut.
+fn is_pair(a: usize, b: usize) -> bool {
+    if b < a {
+        return false;
+    }
+    if b == EMPTY {
+        return a != TOO_MANY && a != BANK_CUT;
+    }
+    true
+}
+
+fn has(a: usize, b: usize, fault: usize) -> bool {
+    a == fault || b == fault
+}
+
+fn count_for(a: usize, b: usize) -> usize
+    ensures { λ r. ⌜ r ≤ 901 ⌝ }
+{
+    if has(a, b, TOO_MANY) {
+        return 901;
+    }
+    if has(a, b, EMPTY) {
+        return 0;
+    }
+    2
+}
+
+fn models_for(a: usize, b: usize) -> Models {
+    if has(a, b, ALL_OFF) {
+        Models::Off
+    } else {
+        Models::First
+    }
+}
+
+// The fault that is made: none of a model where there is none.
+fn made(fault: usize, request: usize) -> usize {
+    if request == MODELS {
+        return match fault {
+            21..=27 => 0,
+            _ => fault,
+        };
+    }
+    fault
+}
+
+// Changes what a fault changes in an input whose request's field begins at a place.
+fn spoil(out: &mut [u8], fault: usize, request: usize)
+    requires { ⌜ (36 ≤ request) × (request ≤ 42383) × (request + 73 ≤ length (now out)) ⌝ }
+{
+    let which = made(fault, request);
+    let size = (request - MODELS) as u16;
+    put16(out, changed_at(which, request), changed_to(which, size));
+}
+
+// Where an input with two faults ends: the earlier cut is the shorter one, and takes a byte too many away.
+fn end_of_pair(a: usize, b: usize, request: usize) -> usize
+    requires { ⌜ (36 ≤ request) × (request ≤ 42383) ⌝ }
+    ensures { λ r. ⌜ r ≤ 42457 ⌝ }
+{
+    let whole = request + 73;
+    let first = end_for(a, request);
+    let second = end_for(b, request);
+    if first < whole {
+        return first;
+    }
+    if second == whole {
+        return first;
+    }
+    second
+}
+
+// Puts an input with two faults into a buffer, and answers where it ends.
+fn put_pair(out: &mut [u8], a: usize, b: usize) -> usize
+    requires { ⌜ 42457 ≤ length (now out) ⌝ }
+    ensures { λ r. ⌜ r ≤ 42457 ⌝ }
+{
+    let request = put_input(out, models_for(a, b), count_for(a, b));
+    spoil(out, a, request);
+    spoil(out, b, request);
+    end_of_pair(a, b, request)
+}
+
+fn id_for(b: usize) -> u32 {
+    if b == UNLISTED { 77_777 } else { 1 }
+}
+
+pub(crate) fn pair(number: usize) -> Seen {
+    let call = (number % CALLS) as u8;
+    let rest = number / CALLS;
+    let a = rest / FAULTS;
+    let b = rest % FAULTS;
+    if !is_pair(a, b) {
+        return Seen::NoCase;
+    }
+    let mut input = [0u8; SPACE];
+    let end = put_pair(&mut input, a, b);
+    judged(prints_part(call, &input, end, id_for(b), number_for(call, a)))
+}

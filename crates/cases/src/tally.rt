@@ -1,0 +1,52 @@
+// What the cases come to.
+use libc::STDOUT_FILENO;
+use std::num::wrapping_add_u64;
+
+// What one number of a group is.
+pub(crate) enum Seen {
+    Same,
+    Differs,
+    // Nothing to ask: the number stands for no input, or for one that another number has.
+    NoCase,
+}
+
+// How many cases there are, how many differ, and the group and number of the first that does.
+pub(crate) struct Tally {
+    pub cases: u64,
+    pub different: u64,
+    pub group: u64,
+    pub number: u64,
+}
+
+pub(crate) fn judged(same: bool) -> Seen {
+    if same { Seen::Same } else { Seen::Differs }
+}
+
+// One case more that differs.
+fn differing(tally: Tally, group: u64, number: u64) -> Tally {
+    let mut now = tally;
+    if now.different == 0 {
+        now.group = group;
+        now.number = number;
+    }
+    now.different = wrapping_add_u64(now.different, 1);
+    now
+}
+
+pub(crate) fn noted(tally: Tally, group: u64, number: u64, what: Seen) -> Tally {
+    let mut now = tally;
+    now.cases = wrapping_add_u64(now.cases, 1);
+    match what {
+        Seen::NoCase => tally,
+        Seen::Differs => differing(now, group, number),
+        Seen::Same => now,
+    }
+}
+
+pub(crate) fn tell_first(tally: Tally) {
+    io::write_all(STDOUT_FILENO, b"the first, by group and number: ");
+    io::print_decimal(STDOUT_FILENO, tally.group);
+    io::write_all(STDOUT_FILENO, b" ");
+    io::print_decimal(STDOUT_FILENO, tally.number);
+    io::write_all(STDOUT_FILENO, b"\n");
+}

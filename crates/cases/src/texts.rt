@@ -1,0 +1,49 @@
+// Texts that are owed in full. The example's are document 01's rows (A), (B) and (C).
+use crate::answers::EACH_ROOM;
+use crate::answers::answers;
+use crate::calls::ASK;
+use crate::calls::UNIT;
+
+// The text of each call for an input and an id, into so much room.
+fn told_in(
+    call: u8,
+    input: &[u8],
+    id: u32,
+    unit: &[u8],
+    ask: &[u8],
+    words: &[u8],
+    room: usize,
+) -> bool {
+    if call == UNIT {
+        return answers(call, input, id, unit, room);
+    }
+    if call == ASK {
+        return answers(call, input, id, ask, room);
+    }
+    answers(call, input, id, words, room)
+}
+
+// The same about model 1, into each room.
+pub(crate) fn told(call: u8, input: &[u8], unit: &[u8], ask: &[u8], words: &[u8]) -> bool {
+    told_in(call, input, 1, unit, ask, words, EACH_ROOM)
+}
+
+// The example's, into so much room.
+pub(crate) fn is_example(call: u8, input: &[u8], id: u32, room: usize) -> bool {
+    told_in(
+        call,
+        input,
+        id,
+        b"decision 42 2 2 2 1 300 6200 1 5200 2 2 7 3\n\
+            rejected 0 0 0 0 0 0 0 0 0\n\
+            lever 1 8000 7000 -\n\
+            lever 2 50 150 -\n\
+            lever 3 1000000 4330000 1299\n\
+            lever 4 8000 1000 -\n",
+        b"decision 42 2 2 2 1 300 6200 1 5200 2 2 7 3\n\
+            lever 3 1000000 443333 798\n\
+            passes 26\n",
+        b"Price: 100 percent today; it must fall by at least 55.6667 percent, to 44.3333 percent; the request then costs 798 microunits.\n",
+        room,
+    )
+}

@@ -1,0 +1,2 @@
+-- Laws of the programs' input, which callers cite.
+pub mod Tests

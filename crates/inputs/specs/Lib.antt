@@ -1,0 +1,2 @@
+-- What refuses an input before validation.
+pub mod Opening

@@ -1,0 +1,40 @@
+-- `lines::put_decision` meets its contract. Assumes nothing.
+use native.Mathlib.Omega.{arith}
+use mir.Syntax.{w64}
+use mir.Val.{SFits}
+use Rattle.rules.specs.Numbers.{toldDecision}
+use mir.ValLaws.{toZ-ofZ}
+use Rattle.splice.proofs.Pieces.{written-then, written-as}
+use Rattle.lines.proofs.Joins.{decision-joins}
+use borrow.Author.Needs.{needs}
+use Rattle.lines.proofs.put_decision.Statement.{statement}
+use Rattle.lines.proofs.put_decision.Tie as tie
+
+returns : tie.Need-returns
+returns c =
+    let p = c .before .before .before .before .before .before .before .before .before .before .before .before .before .before .before .before .before .before .before .before .before .put-start .ensures in
+    let q = c .before .before .before .before .before .before .before .before .before .before .before .before .before .before .before .before .put-word .ensures in
+    let r = c .before .before .before .before .before .before .before .before .before .before .before .put-signed-word .ensures in
+    let s = c .before .before .before .before .before .before .put-words .ensures in
+    let t = c .before .before .put-byte .ensures in
+    let d = c .before .before .before .before .before .before .before .before .before .before .before .before .before .before .before .before .before .before .before .before .before .before .before .before .before .before .args .decision in
+    let f : SFits w64 (d .«counterfactual_utility_microunits») = record { sfits = c .before .before .before .before .before .before .before .before .before .before .before .before .struct-told .given .1 .1 .1 .1 .1 .1 .1 .1 .0 .1 } in (
+      written-as (written-then (written-then (written-then (written-then (p .0) (q .0)) (r .0)) (s .0)) t) (decision-joins (toldDecision d) (toZ-ofZ w64 _ f)),
+      omega (arith, p .1, q .1, r .1, s .1, t .ends),
+    )
+
+pub put-decision-spec : {M : Type 1} → statement M
+put-decision-spec =
+    tie.close
+    (tie.spec
+    (λ c. search needs)
+    (λ c. search needs)
+    (λ c κs. search needs)
+    (λ c. search needs)
+    (λ c κs. search needs)
+    (λ c κs. search needs)
+    (λ c. search needs)
+    (λ c κs. search needs)
+    (λ c κs. search needs)
+    (λ c. search needs)
+    returns)

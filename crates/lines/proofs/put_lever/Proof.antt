@@ -1,0 +1,31 @@
+-- `lines::put_lever` meets its contract. Assumes nothing.
+use native.Mathlib.Omega.{arith}
+use Rattle.rules.specs.Text.{text}
+use Rattle.splice.proofs.Pieces.{written-then, written-as}
+use Rattle.lines.proofs.Joins.{lever-joins}
+use borrow.Author.Needs.{needs}
+use Rattle.lines.proofs.put_lever.Statement.{statement}
+use Rattle.lines.proofs.put_lever.Tie as tie
+
+returns : tie.Need-returns
+unfolding text
+returns c =
+    let s = c .before .before .put-byte .ensures in
+    let r = c .before .before .before .before .before .before .put-cost .ensures in
+    let q = c .before .before .before .before .before .before .before .before .before .before .put-words .ensures in
+    let p = c .before .before .before .before .before .before .before .before .before .before .before .before .before .before .before .put-text .ensures in
+    (written-as (written-then (written-then (written-then p (q .0)) (r .0)) s) (lever-joins _), omega (arith, p .ends, q .1, r .1, s .ends))
+
+pub put-lever-spec : {M : Type 1} → statement M
+put-lever-spec =
+    tie.close
+    (tie.spec
+    (λ c. search needs)
+    (λ c. search needs)
+    (λ c κs. search needs)
+    (λ c. search needs)
+    (λ c κs. search needs)
+    (λ c κs. search needs)
+    (λ c κs. search needs)
+    (λ c. search needs)
+    returns)

@@ -1,0 +1,29 @@
+-- `lines::put_refused` meets its contract. Assumes nothing.
+use Prim.Native.Nat.{ℕ}
+use mathlib.Core.Path.{ap}
+use mathlib.Core.List.{[], _∷_}
+use Rattle.rules.specs.Text.{text, decimal, line}
+use Rattle.rules.specs.Printed.{refusedLine}
+use Rattle.splice.proofs.Pieces.{written-as}
+use borrow.Author.Needs.{needs}
+use Rattle.lines.proofs.put_refused.Statement.{statement}
+use Rattle.lines.proofs.put_refused.Tie as tie
+
+returns : tie.Need-returns
+unfolding refusedLine text
+returns c =
+    let w = c .before .before .put-line .ensures in
+    let n = c .before .before .before .before .before .before in
+    (written-as (w .0) (ap (λ (k : ℕ). line (text "refused") (decimal k ∷ [])) (n .number .ensures)), w .1)
+
+pub put-refused-spec : {M : Type 1} → statement M
+put-refused-spec =
+    tie.close
+    (tie.spec
+    (λ c κs. search needs)
+    (λ c. search needs)
+    (λ c. search needs)
+    (λ c. search needs)
+    (λ c κs. search needs)
+    (λ c. search needs)
+    returns)

@@ -1,0 +1,2 @@
+-- Parts of the lines.
+pub mod Pieces

@@ -1,0 +1,29 @@
+-- `pricing::price::price_limit` meets its contract. Assumes nothing.
+use Prim.Native.Nat.{_^_}
+use native.Mathlib.Omega.{arith}
+use Rattle.rules.specs.Choice.{below}
+use Rattle.rules.proofs.Choices.{below-yes, below-no}
+use Rattle.pricing.specs.Pricing.{priceLimit}
+use Rattle.pricing.proofs.price.price_limit.Statement.{statement}
+use Rattle.pricing.proofs.price.price_limit.Tie as tie
+
+returns : tie.Need-returns
+unfolding priceLimit
+returns c =
+    let s = c .before .before .args in
+    omega (arith, below-yes (s .tokens) (2 ^ 24) (below (s .more) (2 ^ 24) (2 ^ 40) (2 ^ 32)) (2 ^ 32) (omega arith), below-yes (s .more) (2 ^ 24) (2 ^ 40) (2 ^ 32) (omega arith))
+
+returns-2 : tie.Need-returns-2
+unfolding priceLimit
+returns-2 c =
+    let s = c .before .before .args in
+    omega (arith, below-yes (s .tokens) (2 ^ 24) (below (s .more) (2 ^ 24) (2 ^ 40) (2 ^ 32)) (2 ^ 32) (omega arith), below-no (s .more) (2 ^ 24) (2 ^ 40) (2 ^ 32) (omega arith))
+
+returns-3 : tie.Need-returns-3
+unfolding priceLimit
+returns-3 c =
+    let s = c .before .args in
+    omega (arith, below-no (s .tokens) (2 ^ 24) (below (s .more) (2 ^ 24) (2 ^ 40) (2 ^ 32)) (2 ^ 32) (omega arith))
+
+pub price-limit-spec : {M : Type 1} → statement M
+price-limit-spec = tie.close (tie.spec returns returns-2 returns-3)

@@ -1,0 +1,2 @@
+-- Laws of the sentences.
+pub mod Joins

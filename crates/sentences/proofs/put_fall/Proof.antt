@@ -1,0 +1,38 @@
+-- `sentences::put_fall` meets its contract. Assumes nothing.
+use Prim.Native.Nat.{ℕ}
+use mathlib.Core.Path.{ap}
+use mathlib.Core.List.{_++_}
+use native.Mathlib.Omega.{arith}
+use Rattle.rules.specs.Text.{text}
+use Rattle.rules.specs.Words.{percent}
+use Rattle.splice.proofs.Pieces.{written-then, written-as}
+use Rattle.sentences.specs.Parts.{fallWords}
+use borrow.Author.Needs.{needs}
+use Rattle.sentences.proofs.put_fall.Statement.{statement}
+use Rattle.sentences.proofs.put_fall.Tie as tie
+
+returns : tie.Need-returns
+unfolding fallWords text
+returns c =
+    let p = c .before .before .before .before .before .before .before .before .before .before .before .before .before .before .before .before .put-text .ensures in
+    let q = c .before .before .before .before .before .before .before .before .before .before .before .put-percent .ensures in
+    let r = c .before .before .before .before .before .before .put-text2 .ensures in
+    let s = c .before .before .put-percent2 .ensures in (
+      written-as (written-then (written-then (written-then p (q .0)) r) (s .0))
+          (ap (λ (n : ℕ). text "Price: 100 percent today; it must fall by at least " ++ percent n ++ text ", to " ++ percent (c .before .before .before .before .before .before .before .before .before .before .before .before .before .before .before .before .before .before .before .before .args .boundary)) (c .before .before .before .before .before .before .before .before .before .before .before .before .fall .ensures)),
+      omega (arith, p .ends, q .1, r .ends, s .1),
+    )
+
+pub put-fall-spec : {M : Type 1} → statement M
+put-fall-spec =
+    tie.close
+    (tie.spec
+    (λ c. search needs)
+    (λ c κs. search needs)
+    (λ c κs. search needs)
+    (λ c κs. search needs)
+    (λ c. search needs)
+    (λ c κs. search needs)
+    (λ c κs. search needs)
+    (λ c. search needs)
+    returns)

@@ -1,0 +1,28 @@
+-- `sentences::put_latency` meets its contract. Assumes nothing.
+use native.Mathlib.Omega.{arith}
+use Rattle.rules.specs.Text.{text}
+use Rattle.splice.proofs.Pieces.{written-then, written-as}
+use Rattle.sentences.proofs.Joins.{latency-joins}
+use borrow.Author.Needs.{needs}
+use Rattle.sentences.proofs.put_latency.Statement.{statement}
+use Rattle.sentences.proofs.put_latency.Tie as tie
+
+returns : tie.Need-returns
+unfolding text
+returns c =
+    let p = c .before .before .before .before .before .before .before .before .before .before .before .put-about .ensures in
+    let q = c .before .before .before .before .before .before .before .put-number .ensures in
+    let r = c .before .before .put-text .ensures in
+    (written-as (written-then (written-then (p .0) (q .0)) r) (latency-joins _), omega (arith, p .1, q .1, r .ends))
+
+pub put-latency-spec : {M : Type 1} → statement M
+put-latency-spec =
+    tie.close
+    (tie.spec
+    (λ c. search needs)
+    (λ c κs. search needs)
+    (λ c κs. search needs)
+    (λ c. search needs)
+    (λ c κs. search needs)
+    (λ c. search needs)
+    returns)

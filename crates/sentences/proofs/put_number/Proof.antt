@@ -1,0 +1,28 @@
+-- `sentences::put_number` meets its contract. Assumes nothing.
+use Prim.Native.Nat.{_≤_}
+use native.Mathlib.Omega.{arith}
+use lib.ListN.{length}
+use Rattle.rules.specs.Text.{decimal}
+use Rattle.text.proofs.Digits.{decimal-twenty}
+use borrow.Author.Needs.{needs}
+use Rattle.sentences.proofs.put_number.Statement.{statement}
+use Rattle.sentences.proofs.put_number.Tie as tie
+
+few : (c : tie.Start) → length (decimal (c .args .n)) ≤ 20
+few c = decimal-twenty (c .args .n) (c .fits .n .fits)
+
+put-decimal-requires : tie.Need-put-decimal-requires
+put-decimal-requires c κs = omega (arith, few (c .before .before), c .before .before .pre)
+
+returns : tie.Need-returns
+returns c =
+    let w = c .before .before .put-decimal .ensures in
+    (w, omega (arith, w .ends, few (c .before .before .before .before .before)))
+
+pub put-number-spec : {M : Type 1} → statement M
+put-number-spec =
+    tie.close
+    (tie.spec
+    put-decimal-requires
+    (λ c. search needs)
+    returns)

@@ -1,0 +1,26 @@
+-- `sentences::put_price` meets its contract. Assumes nothing.
+use native.Mathlib.Omega.{arith}
+use Rattle.rules.specs.Words.{sentence, priceWords}
+use Rattle.splice.proofs.Pieces.{written-then}
+use Rattle.sentences.specs.Parts.{fallWords}
+use borrow.Author.Needs.{needs}
+use Rattle.sentences.proofs.put_price.Statement.{statement}
+use Rattle.sentences.proofs.put_price.Tie as tie
+
+returns : tie.Need-returns
+unfolding priceWords sentence fallWords
+returns c =
+    let p = c .before .before .before .before .before .before .before .before .before .before .put-fall .ensures in
+    let q = c .before .before .before .before .before .before .put-then .ensures in
+    let r = c .before .before .put-byte .ensures in
+    (written-then (written-then (p .0) (q .0)) r, omega (arith, p .1, q .1, r .ends))
+
+pub put-price-spec : {M : Type 1} → statement M
+put-price-spec =
+    tie.close
+    (tie.spec
+    (λ c κs. search needs)
+    (λ c κs. search needs)
+    (λ c κs. search needs)
+    (λ c. search needs)
+    returns)

@@ -1,0 +1,23 @@
+-- `sentences::put_remark` meets its contract. Assumes nothing.
+use native.Mathlib.Omega.{arith}
+use Rattle.rules.specs.Words.{sentence}
+use Rattle.splice.proofs.Pieces.{written-then}
+use borrow.Author.Needs.{needs}
+use Rattle.sentences.proofs.put_remark.Statement.{statement}
+use Rattle.sentences.proofs.put_remark.Tie as tie
+
+returns : tie.Need-returns
+unfolding sentence
+returns c =
+    let p = c .before .before .before .before .before .before .put-about .ensures in
+    let q = c .before .before .put-byte .ensures in
+    (written-then (p .0) q, omega (arith, p .1, q .ends))
+
+pub put-remark-spec : {M : Type 1} → statement M
+put-remark-spec =
+    tie.close
+    (tie.spec
+    (λ c κs. search needs)
+    (λ c κs. search needs)
+    (λ c. search needs)
+    returns)

@@ -1,0 +1,2 @@
+-- Parts of the sentences.
+pub mod Parts

@@ -1,0 +1,4 @@
+-- Laws of the answers in words, which callers cite.
+pub mod Sayings
+pub mod Answers
+pub mod Prefixes

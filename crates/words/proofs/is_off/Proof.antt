@@ -1,0 +1,28 @@
+-- `words::is_off` meets its contract. Assumes nothing.
+use native.Mathlib.Omega.{arith}
+use Rattle.kernel.proofs.Finding.{found-at}
+use Rattle.counterfactual.proofs.Listed.{without, with-place}
+use Rattle.words.proofs.Sayings.{off-nowhere, off-at}
+use borrow.Author.Needs.{needs}
+use Rattle.words.proofs.is_off.Statement.{statement}
+use Rattle.words.proofs.is_off.Tie as tie
+
+returns : tie.Need-returns
+returns c = off-nowhere _ _ (without (c .before .first-listed .result) _ (c .match .keys2) (c .before .first-listed .ensures))
+
+model-at-requires : tie.Need-model-at-requires
+model-at-requires c κs = omega (arith, found-at _ _ _ (with-place (c .before .found .given .1) (c .before .before .before .first-listed .ensures)) .1)
+
+returns-2 : tie.Need-returns-2
+returns-2 c = off-at _ _ _ (with-place (c .before .before .before .found .given .1) (c .before .before .before .before .before .first-listed .ensures)) (c .before .model-at .ensures)
+
+pub is-off-spec : {M : Type 1} → statement M
+is-off-spec =
+    tie.close
+    (tie.spec
+    (λ c κs. search needs)
+    (λ c. search needs)
+    returns
+    (λ c. search needs)
+    model-at-requires
+    returns-2)

@@ -1,0 +1,61 @@
+-- `words::put_answer` meets its contract. Assumes nothing.
+use mathlib.Core.Path.{_≡_, ap, _∙_}
+use mathlib.Core.List.{List, []}
+use Prim.Native.Nat.{ℕ}
+use denote.Ref.{now}
+use Rattle.rules.specs.Records.{listedOf}
+use Rattle.rules.specs.Listing.{firstListed}
+use Rattle.rules.specs.Printed.{askFaults}
+use Rattle.rules.specs.Words.{isOff, wordsReport, askWords}
+use Rattle.splice.proofs.Pieces.{written-as}
+use Rattle.kernel.proofs.Refusals.{none-told}
+use Rattle.inputs.specs.Opening.{Formed}
+use Rattle.inputs.proofs.Tests.{program-formed, bank-few}
+use Rattle.printed.proofs.Reports.{refused-text, passed-text}
+use Rattle.printed.proofs.Asks.{asking-passed, win-told}
+use borrow.Author.Needs.{needs}
+use Rattle.words.proofs.put_answer.Statement.{statement}
+use Rattle.words.proofs.put_answer.Tie as tie
+
+returns : tie.Need-returns
+unfolding askWords
+returns c = written-as (c .before .before .put-refused .ensures .0) (refused-text _ _ (c .before .before .before .before .before .outcome .given .1) (c .before .before .before .before .before .before .before .ask-outcome .ensures))
+
+-- the question passes
+none : (c : tie.After-enum-told) → askFaults (c .before .before .before .before .before .args .id) (now (c .before .before .before .before .before .args .input)) ≡ []
+none c = none-told _ (c .enum-told .given .1) (c .before .before .ask-outcome .ensures)
+
+formed : (c : tie.After-enum-told) → Formed (now (c .before .before .before .before .before .args .input))
+formed c = program-formed _ (asking-passed _ _ (none c))
+
+is-off-requires : tie.Need-is-off-requires
+is-off-requires c κs = rw (c .before .before .before .before .bank-in .ensures) (bank-few _ (formed (c .before .before .before .before .before)))
+
+returns-2 : tie.Need-returns-2
+unfolding askWords
+returns-2 c =
+    let e = c .before .before .before .before .before .before .before .before .before in
+    let id = c .before .before .before .before .before .before .before .before .before .before .before .before .before .before .args .id in
+    let models = c .before .before .before .before .before .before .before .before .bank-in .ensures in
+    let b = win-told _ _ (formed e) (c .before .before .before .before .before .before .before .policy-in .ensures) (c .before .before .before .before .before .before .request-in .ensures) models (c .before .before .before .before .before .what-would-win .ensures) in
+    let off = c .before .before .before .is-off .ensures ∙ ap (λ (s : List ℕ). isOff (firstListed id (listedOf s))) models in
+    written-as (c .before .before .put-words-report .ensures) ((λ i. wordsReport id (off i) (b i)) ∙ passed-text _ _ (none e))
+
+pub put-answer-spec : {M : Type 1} → statement M
+put-answer-spec =
+    tie.close
+    (tie.spec
+    (λ c κs. search needs)
+    (λ c. search needs)
+    (λ c κs. search needs)
+    (λ c. search needs)
+    returns
+    (λ c. search needs)
+    (λ c κs. formed c)
+    (λ c κs. formed (c .before))
+    (λ c κs. formed (c .before .before))
+    (λ c κs. search needs)
+    is-off-requires
+    (λ c κs. search needs)
+    (λ c. search needs)
+    returns-2)

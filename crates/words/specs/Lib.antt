@@ -1,0 +1,2 @@
+-- What is said where no lever wins.
+pub mod Nothing
