@@ -1,4 +1,5 @@
-/* The calls of libvolankizo.a. Numbers are little-endian and packed. A slice is an address and a length; no address is kept.
+/* The calls of libvolankizo.a. Numbers are little-endian and packed. A slice is an address and a length; no address is kept, and none may be
+ * null, also where the length is 0.
  *
  * A policy is 30 bytes: policy epoch u64, catalogue epoch u64, hard risk limit, minimum confidence, risk multiplier (u16 each), latency
  * penalty per ms u64.

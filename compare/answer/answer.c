@@ -4,7 +4,8 @@
  * and the Rust beside it as it is. A fault in the library ends this program, and the comparison can say on which case.
  * It uses no C library and no header, so the kit's compiler is all that it needs.
  *
- * A question: struct question, then its memory. An answer: the word (8 bytes), then the memory. */
+ * A question: struct question, then its memory. An answer: the word (8 bytes), then the memory. Answers are kept until no question is
+ * left that was sent already, so that many can be sent and read together. */
 
 typedef __UINT64_TYPE__ u64;
 
@@ -26,7 +27,9 @@ struct question {
 typedef u64 exported(u64, u64, u64, u64, u64, u64, u64, u64, u64, u64, u64, u64);
 
 exported volankizo_prescribe, volankizo_prescribe_checked, volankizo_utility_for_model, volankizo_find, volankizo_check_request,
-    volankizo_explain, volankizo_next_eligible, volankizo_validate, volankizo_trust, volankizo_what_would_win, volankizo_decision_margin;
+    volankizo_explain, volankizo_next_eligible, volankizo_validate, volankizo_trust, volankizo_what_would_win, volankizo_decision_margin,
+    volankizo_record_at, volankizo_write_stored, volankizo_read_stored, volankizo_write_request, volankizo_read_request,
+    volankizo_unit_text, volankizo_ask_text, volankizo_ask_words;
 
 static const struct {
     const char *name;
@@ -43,6 +46,14 @@ static const struct {
     {"trust", volankizo_trust},
     {"what_would_win", volankizo_what_would_win},
     {"decision_margin", volankizo_decision_margin},
+    {"record_at", volankizo_record_at},
+    {"write_stored", volankizo_write_stored},
+    {"read_stored", volankizo_read_stored},
+    {"write_request", volankizo_write_request},
+    {"read_request", volankizo_read_request},
+    {"unit_text", volankizo_unit_text},
+    {"ask_text", volankizo_ask_text},
+    {"ask_words", volankizo_ask_words},
 };
 
 enum { SYS_READ = 0, SYS_WRITE = 1, SYS_MMAP = 9, SYS_MPROTECT = 10, SYS_EXIT = 60 };
@@ -66,18 +77,17 @@ static _Noreturn void leave(int code)
         system_call(SYS_EXIT, code, 0, 0, 0, 0, 0);
 }
 
-/* Fills the buffer. No more input is the end, and is good only where a question would begin. */
-static void take(void *to, u64 bytes, int may_end)
+/* Questions that were read and not yet asked, and answers that were not yet sent. */
+enum { TOGETHER = 1 << 16 };
+static char questions[TOGETHER], answers[TOGETHER];
+static u64 asked, got, answered;
+
+static void copy(char *to, const char *from, u64 bytes)
 {
-    for (u64 got = 0; got < bytes;) {
-        long n = system_call(SYS_READ, 0, (u64)to + got, bytes - got, 0, 0, 0);
-        if (n <= 0)
-            leave(n == 0 && got == 0 && may_end ? 0 : 2);
-        got += n;
-    }
+    __asm__ volatile("rep movsb" : "+D"(to), "+S"(from), "+c"(bytes) : : "memory");
 }
 
-static void give(const void *from, u64 bytes)
+static void send(const char *from, u64 bytes)
 {
     for (u64 sent = 0; sent < bytes;) {
         long n = system_call(SYS_WRITE, 1, (u64)from + sent, bytes - sent, 0, 0, 0);
@@ -85,6 +95,54 @@ static void give(const void *from, u64 bytes)
             leave(2);
         sent += n;
     }
+}
+
+static void send_answers(void)
+{
+    send(answers, answered);
+    answered = 0;
+}
+
+/* Reads what there is, after what is owed was sent. No more input is the end, and is good only where a question would begin. */
+static u64 more(char *to, u64 most, int may_end)
+{
+    send_answers();
+    long n = system_call(SYS_READ, 0, (u64)to, most, 0, 0, 0);
+    if (n <= 0)
+        leave(n == 0 && may_end ? 0 : 2);
+    return n;
+}
+
+/* Fills the buffer. A long rest is read to where it goes. */
+static void take(void *to, u64 bytes, int may_end)
+{
+    for (u64 had = 0; had < bytes;) {
+        u64 left = bytes - had;
+        if (asked == got && left >= TOGETHER) {
+            had += more((char *)to + had, left, 0);
+            continue;
+        }
+        if (asked == got) {
+            got = more(questions, TOGETHER, may_end && had == 0);
+            asked = 0;
+        }
+        u64 some = got - asked < left ? got - asked : left;
+        copy((char *)to + had, questions + asked, some);
+        asked += some;
+        had += some;
+    }
+}
+
+static void give(const void *from, u64 bytes)
+{
+    if (answered + bytes > TOGETHER)
+        send_answers();
+    if (bytes > TOGETHER) {
+        send(from, bytes);
+        return;
+    }
+    copy(answers + answered, from, bytes);
+    answered += bytes;
 }
 
 /* The end of the memory lent: what follows cannot be read or written, so that a step too far is a fault. */

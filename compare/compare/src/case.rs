@@ -1,6 +1,7 @@
 //! An input on which every call can be asked.
-use crate::second::bytes::RECORD_BYTES;
-use crate::second::explanation::EXPLANATION_BYTES;
+use crate::calls::By;
+use crate::form::{form_bytes, Damage};
+use std::cell::OnceCell;
 use std::fmt;
 
 /// How much room a buffer has, against what is needed.
@@ -28,6 +29,14 @@ pub enum Listed {
     Bytes(Vec<u8>),
 }
 
+/// The form that is read, or the programs' input: made of the case's policy, bank and request, each as far as the call's form has it,
+/// and then damaged; or any bytes.
+#[derive(Clone, Debug, PartialEq, Eq)]
+pub enum Formed {
+    Made(Vec<Damage>),
+    Bytes(Vec<u8>),
+}
+
 /// The bytes and numbers of one input. Lengths may be wrong: they are compared too.
 #[derive(Clone, Debug)]
 pub struct Case {
@@ -37,14 +46,15 @@ pub struct Case {
     pub id: u32,
     /// Of the buffer for the answer.
     pub room: Room,
-    /// Of the list that `explain` fills, against a record for each model.
+    /// Of the other buffer: the list that `explain` fills, or the bank that `read_stored` fills.
     pub list_room: Room,
     pub listed: Listed,
-    /// The place at which `next_eligible` begins.
-    pub from: u64,
+    /// The place that `record_at` reads, and at which `next_eligible` begins.
+    pub place: u64,
+    pub formed: Formed,
 }
 
-/// A case as one call sees it: with the room of its own buffers in bytes.
+/// A case as one call sees it: with its own form, and the room of its own buffers in bytes.
 pub struct Ask<'a> {
     pub policy: &'a [u8],
     pub request: &'a [u8],
@@ -53,26 +63,35 @@ pub struct Ask<'a> {
     pub room: usize,
     pub list_room: usize,
     pub listed: &'a Listed,
-    pub from: u64,
+    pub place: u64,
+    pub form: Vec<u8>,
+    /// What is printed, once it is known: it says how much room is needed, and is the answer.
+    pub text: OnceCell<(By, Vec<u8>)>,
 }
 
 impl Case {
-    pub fn ask(&self, need: usize) -> Ask<'_> {
+    /// The case for a call whose form has these tags, before the rooms are known.
+    pub fn ask(&self, tags: &[u8]) -> Ask<'_> {
         Ask {
             policy: &self.policy,
             request: &self.request,
             bank: &self.bank,
             id: self.id,
-            room: self.room.bytes(need),
-            list_room: self.list_room(),
+            room: 0,
+            list_room: 0,
             listed: &self.listed,
-            from: self.from,
+            place: self.place,
+            form: self.form(tags),
+            text: OnceCell::new(),
         }
     }
 
-    /// The bytes of the list that is lent to be filled. A stopped request needs none of them.
-    pub fn list_room(&self) -> usize {
-        self.list_room.bytes(self.bank.len() / RECORD_BYTES * EXPLANATION_BYTES)
+    fn form(&self, tags: &[u8]) -> Vec<u8> {
+        match &self.formed {
+            _ if tags.is_empty() => Vec::new(),
+            Formed::Made(damages) => form_bytes(self, tags, damages),
+            Formed::Bytes(bytes) => bytes.clone(),
+        }
     }
 }
 
@@ -86,7 +105,11 @@ impl fmt::Display for Case {
             Listed::Explained => writeln!(f, "list    the explanation of these")?,
             Listed::Bytes(list) => writeln!(f, "list    ({} bytes) {}", list.len(), hex(list))?,
         }
-        write!(f, "id {}, from {}, room {:?}, room of the list {:?}", self.id, self.from, self.room, self.list_room)
+        match &self.formed {
+            Formed::Made(damages) => writeln!(f, "form    made of these, then {damages:?}")?,
+            Formed::Bytes(form) => writeln!(f, "form    ({} bytes) {}", form.len(), hex(form))?,
+        }
+        write!(f, "id {}, place {}, room {:?}, room of the list {:?}", self.id, self.place, self.room, self.list_room)
     }
 }
 

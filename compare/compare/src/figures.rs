@@ -1,9 +1,10 @@
 //! What a run of cases reaches, in figures: a generator that misses a rule shows here.
-use crate::calls::{Answer, Call, CALLS, EXPLAIN, MARGIN, NEXT, PRESCRIBE, TRUST, WIN};
+use crate::calls::{Answer, Call, ASK, CALLS, EXPLAIN, MARGIN, NEXT, PRESCRIBE, TRUST, UNIT, WIN, WORDS};
 use crate::case::Case;
 use crate::second::boundaries::passes_and_levers;
 use crate::second::bytes::{models_of, policy_of, request_of, RECORD_BYTES};
 use crate::second::explanation::{EXPLANATION_BYTES, NO_MORE};
+use crate::second::printed::LENGTH_BYTES;
 use oracle::kernel::{CandidateVerdict, Explanation, KernelModel, UtilityTerms};
 use std::cmp::Reverse;
 use std::collections::{BTreeMap, BTreeSet};
@@ -43,8 +44,16 @@ impl Figures {
             (EXPLAIN, None) => self.note_verdicts(&owed.list),
             (NEXT, None) if owed.out == NO_MORE.to_le_bytes() => self.find(call, "none"),
             (WIN | MARGIN, None) => self.note_search(call, &owed.out),
+            (UNIT | ASK | WORDS, None) => self.note_text(call, &owed.out),
             _ => {}
         }
+    }
+
+    /// Each kind of line that is printed: its name with a lever's or a refusal's number, or a sentence without its numbers.
+    fn note_text(&mut self, call: usize, answer: &[u8]) {
+        let text = std::str::from_utf8(&answer[LENGTH_BYTES..]).expect("printed as text");
+        let kinds: BTreeSet<String> = text.lines().map(kind_of_line).collect();
+        kinds.iter().for_each(|kind| self.find(call, kind));
     }
 
     /// Each verdict with its gate that is in a list.
@@ -114,6 +123,18 @@ impl Figures {
 
     fn see(&mut self, what: String) {
         *self.seen.entry(what).or_default() += 1;
+    }
+}
+
+fn kind_of_line(line: &str) -> String {
+    let words: Vec<&str> = line.split(' ').collect();
+    match words[0] {
+        "lever" | "refused" => format!("prints {} {}", words[0], words[1]),
+        "decision" | "rejected" | "passes" => format!("prints {}", words[0]),
+        _ => {
+            let plain: String = line.chars().filter(|c| !c.is_ascii_digit()).take(28).collect();
+            format!("says {plain}")
+        }
     }
 }
 
@@ -193,7 +214,7 @@ impl fmt::Display for Table<'_> {
 
 impl Table<'_> {
     fn row(&self, f: &mut fmt::Formatter<'_>, title: &str, cell: impl Fn(&(&str, &Figures)) -> String) -> fmt::Result {
-        write!(f, "{title:40}")?;
+        write!(f, "{title:42}")?;
         self.0.iter().try_for_each(|column| write!(f, "{:>20}", cell(column)))?;
         writeln!(f)
     }

@@ -2,20 +2,23 @@
 //! not end the comparison.
 use crate::calls::next_eligible::list_to_read;
 use crate::calls::{Call, Handed};
-use crate::case::Case;
-use std::io::{self, Read, Write};
+use crate::case::Ask;
+use std::io::{self, BufReader, Read, Write};
 use std::ops::Range;
 use std::process::{Child, ChildStdin, ChildStdout, Command, Stdio};
 
 const NAME: usize = 32;
 const MOST_ARGUMENTS: usize = 12;
+/// A question without its memory.
+const HEADER: usize = NAME + MOST_ARGUMENTS * 16 + 8;
 
 /// Bytes that nobody may write, before everything lent and so on either side of what may be written.
 const GUARD: usize = 24;
 
 /// The order in which things stand in memory, as far as a call takes them: what may be written first, then what is read, so that a step
-/// past the end of a bank or a list that is read is a fault.
-const ORDER: [Handed; 6] = [Handed::Out, Handed::List, Handed::Policy, Handed::Request, Handed::Bank, Handed::Listed];
+/// past the end of a bank, a list or a form that is read is a fault.
+const ORDER: [Handed; 7] =
+    [Handed::Out, Handed::List, Handed::Policy, Handed::Request, Handed::Bank, Handed::Listed, Handed::Form];
 
 /// What the program is lent in one piece, each part after a guard. Nothing follows the last.
 #[derive(Clone, PartialEq)]
@@ -25,8 +28,7 @@ pub struct Memory {
 }
 
 impl Memory {
-    pub fn new(call: &Call, case: &Case) -> Self {
-        let ask = case.ask((call.need)(case));
+    pub fn new(call: &Call, ask: &Ask) -> Self {
         let mut memory = Memory { bytes: Vec::new(), lent: Vec::new() };
         for handed in ORDER.into_iter().filter(|handed| call.takes.contains(handed)) {
             memory.fill(GUARD);
@@ -37,8 +39,9 @@ impl Memory {
                 Handed::Policy => memory.bytes.extend(ask.policy),
                 Handed::Request => memory.bytes.extend(ask.request),
                 Handed::Bank => memory.bytes.extend(ask.bank),
-                Handed::Listed => memory.bytes.extend(list_to_read(&ask)),
-                Handed::Id | Handed::From => unreachable!("a number stands nowhere"),
+                Handed::Listed => memory.bytes.extend(list_to_read(ask)),
+                Handed::Form => memory.bytes.extend(&ask.form),
+                Handed::Id | Handed::Place => unreachable!("a number stands nowhere"),
             }
             memory.lent.push((handed, start..memory.bytes.len()));
         }
@@ -60,6 +63,11 @@ impl Memory {
         self.range(handed).map_or(&[], |range| &self.bytes[range])
     }
 
+    /// The same things lent, with other bytes.
+    pub fn with(&self, bytes: Vec<u8>) -> Self {
+        Memory { bytes, lent: self.lent.clone() }
+    }
+
     /// Writes to the start of one thing.
     pub fn write(&mut self, handed: Handed, bytes: &[u8]) {
         if bytes.is_empty() {
@@ -76,11 +84,11 @@ impl Memory {
     }
 
     /// What one thing handed over is to the program: pairs of "is an offset into the memory" and a number.
-    fn arguments(&self, handed: Handed, case: &Case) -> Vec<(u64, u64)> {
+    fn arguments(&self, handed: Handed, ask: &Ask) -> Vec<(u64, u64)> {
         match handed {
             // A u32 is the lower half of its register: what the upper half holds must not matter.
-            Handed::Id => vec![(0, u64::from(case.id) | 0xa5a5_a5a5 << 32)],
-            Handed::From => vec![(0, case.from)],
+            Handed::Id => vec![(0, u64::from(ask.id) | 0xa5a5_a5a5 << 32)],
+            Handed::Place => vec![(0, ask.place)],
             _ => {
                 let range = self.range(handed).expect("lent, since it is taken");
                 vec![(1, range.start as u64), (0, range.len() as u64)]
@@ -88,11 +96,13 @@ impl Memory {
         }
     }
 
-    fn question(&self, call: &Call, case: &Case) -> Vec<u8> {
-        let mut question = call.name.as_bytes().to_vec();
+    /// What the program is sent for a call.
+    pub fn question(&self, call: &Call, ask: &Ask) -> Vec<u8> {
+        let mut question = Vec::with_capacity(HEADER + self.bytes.len());
+        question.extend(call.name.as_bytes());
         question.resize(NAME, 0);
         let mut arguments: Vec<(u64, u64)> =
-            call.takes.iter().flat_map(|handed| self.arguments(*handed, case)).collect();
+            call.takes.iter().flat_map(|handed| self.arguments(*handed, ask)).collect();
         assert!(call.name.len() < NAME && arguments.len() <= MOST_ARGUMENTS);
         arguments.resize(MOST_ARGUMENTS, (0, 0));
         for (is_offset, number) in arguments {
@@ -117,24 +127,38 @@ struct Running {
     answers: ChildStdout,
 }
 
+/// The word that came back, and the memory after the call.
+pub type Given = (u64, Vec<u8>);
+
+/// The most bytes of answers to questions that are sent together: less than a pipe holds, so that the program never waits for us to read
+/// while we wait for it to read.
+pub const TOGETHER: usize = 40_000;
+
+/// The bytes of an answer.
+pub fn answer_bytes(memory: &Memory) -> usize {
+    8 + memory.bytes.len()
+}
+
 impl Library {
     pub fn start(command: Vec<String>) -> Result<Self, String> {
         let running = Some(run(&command)?);
         Ok(Library { command, running })
     }
 
-    /// The word and the memory after the call; or how the program ended, where it did.
-    pub fn ask(&mut self, call: &Call, case: &Case, memory: &Memory) -> Result<(u64, Memory), String> {
-        let running = match self.running.take() {
-            Some(running) => running,
-            None => run(&self.command)?,
+    /// Sends the questions together, with the memory of each. What came back, one after the other; and how the program ended, where it
+    /// did so before the last answer. It may then have ended on any question that has no answer.
+    pub fn ask(&mut self, questions: &[(&[u8], &Memory)]) -> (Vec<Given>, Result<(), String>) {
+        let mut running = match self.running.take().map_or_else(|| run(&self.command), Ok) {
+            Ok(running) => running,
+            Err(why) => return (Vec::new(), Err(why)),
         };
-        match exchange(running, &memory.question(call, case), memory) {
-            Ok((running, word, after)) => {
+        let mut given = Vec::new();
+        match put_and_take(&mut running, questions, &mut given) {
+            Ok(()) => {
                 self.running = Some(running);
-                Ok((word, after))
+                (given, Ok(()))
             }
-            Err(ended) => Err(ended),
+            Err(error) => (given, Err(ended(running, &error))),
         }
     }
 }
@@ -150,23 +174,23 @@ fn run(command: &[String]) -> Result<Running, String> {
     Ok(Running { child, questions, answers })
 }
 
-fn exchange(mut running: Running, question: &[u8], memory: &Memory) -> Result<(Running, u64, Memory), String> {
-    let mut after = memory.clone();
-    match put_and_take(&mut running, question, &mut after.bytes) {
-        Ok(word) => Ok((running, word, after)),
-        Err(error) => {
-            // Without input it ends by itself, if it hasn't yet.
-            drop(running.questions);
-            let status = running.child.wait().map_or_else(|error| error.to_string(), |status| status.to_string());
-            Err(format!("the program that calls the library ended: {status} ({error})"))
-        }
-    }
+/// Without input it ends by itself, if it hasn't yet.
+fn ended(mut running: Running, error: &io::Error) -> String {
+    drop((running.questions, running.answers));
+    let status = running.child.wait().map_or_else(|error| error.to_string(), |status| status.to_string());
+    format!("the program that calls the library ended: {status} ({error})")
 }
 
-fn put_and_take(running: &mut Running, question: &[u8], memory: &mut [u8]) -> io::Result<u64> {
-    running.questions.write_all(question)?;
-    let mut word = [0; 8];
-    running.answers.read_exact(&mut word)?;
-    running.answers.read_exact(memory)?;
-    Ok(u64::from_le_bytes(word))
+fn put_and_take(running: &mut Running, questions: &[(&[u8], &Memory)], given: &mut Vec<Given>) -> io::Result<()> {
+    let sent: Vec<&[u8]> = questions.iter().map(|(question, _)| *question).collect();
+    running.questions.write_all(&sent.concat())?;
+    let mut answers = BufReader::with_capacity(TOGETHER, &mut running.answers);
+    for (_, memory) in questions {
+        let mut word = [0; 8];
+        answers.read_exact(&mut word)?;
+        let mut after = vec![0; memory.bytes.len()];
+        answers.read_exact(&mut after)?;
+        given.push((u64::from_le_bytes(word), after));
+    }
+    Ok(())
 }

@@ -1,18 +1,19 @@
 //! The inputs reach every rule: each refusal of each call, each reason, each count, each key of the ranking, each extreme, each verdict,
-//! each lever.
-use compare::calls::{CALLS, EXPLAIN, MARGIN, NEXT, TRUST, WIN};
+//! each lever, each line and each sentence.
+use compare::calls::{ASK, CALLS, EXPLAIN, MARGIN, NEXT, TRUST, UNIT, WIN, WORDS, WRITE_STORED};
 use compare::case::Case;
 use compare::figures::{Figures, COUNTS, EXTREMES, KEYS, LEVERS, SEARCHED};
 use compare::generate::{Asked, DRAWS, SPACES};
 
 fn note(figures: &mut Figures, asked: &Asked, case: &Case) {
     for (at, call) in CALLS.iter().enumerate().filter(|(at, _)| asked.asks(*at, case)) {
-        figures.note(at, case, &call.owed(case));
+        figures.note(at, case, &call.owed_on(case));
     }
 }
 
-/// The refusals of each call, in the order of `CALLS`; 2 takes a bank of 65,536 records and is reached by the small spaces alone.
-const REFUSED: [&[u8]; 11] = [
+/// The refusals of each call, in the order of `CALLS`. 2 takes a bank of 65,536 records and 18 one of 1,395: the small spaces alone reach
+/// them, and are asked for them apart.
+const REFUSED: [&[u8]; 19] = [
     &[1, 4, 22],
     &[1, 3, 4, 22],
     &[1, 4, 7, 22],
@@ -24,6 +25,30 @@ const REFUSED: [&[u8]; 11] = [
     &[1, 10, 11, 12, 13, 14, 15, 16, 17, 22],
     &[1, 4, 5, 22],
     &[1, 4, 6, 22],
+    &[1, 4, 8],
+    &[1, 4, 22],
+    &[4, 20, 21, 22],
+    &[4, 22],
+    &[4, 20, 21, 22],
+    &[4],
+    &[4],
+    &[4],
+];
+
+/// What each call prints in place of an answer, from the third on by the desk alone; 19 takes 901 models, and random cases may miss it.
+const PRINTED_REFUSED: [u8; 10] = [3, 10, 11, 12, 13, 14, 15, 20, 21, 22];
+
+/// The sentences, as far as they are told apart.
+const SENTENCES: [&str; 9] = [
+    "Latency:  ms today; it must ",
+    "Model  is chosen already.",
+    "Model  is only switched off:",
+    "Model  is switched off, and ",
+    "No single change would make ",
+    "Price:  percent today; it mu",
+    "Quality:  basis points today",
+    "Risk ceiling:  basis points ",
+    "The request itself is stoppe",
 ];
 
 fn assert_reached(figures: &Figures) {
@@ -31,8 +56,10 @@ fn assert_reached(figures: &Figures) {
         for number in *numbers {
             assert!(figures.refused.contains_key(&(call, *number)), "{} is refused {number}", CALLS[call].name);
         }
-        let others =
-            figures.refused.keys().filter(|(of, number)| *of == call && *number != 2 && !numbers.contains(number));
+        let others = figures
+            .refused
+            .keys()
+            .filter(|(of, number)| *of == call && ![2, 18].contains(number) && !numbers.contains(number));
         assert_eq!(others.count(), 0, "{} is refused with no other number", CALLS[call].name);
     }
     let reasons = [1, 2].into_iter().chain(100..=110).map(|reason| format!("reason {reason:3}"));
@@ -46,7 +73,16 @@ fn assert_reached(figures: &Figures) {
     let verdicts = (2..=4).map(|verdict| (EXPLAIN, format!("some with verdict {verdict}")));
     let levers = LEVERS.iter().map(|lever| (WIN, format!("lever {lever}")));
     let margins = LEVERS[..4].iter().map(|lever| (MARGIN, format!("lever {lever}")));
+    let refused = [UNIT, ASK, WORDS].into_iter().flat_map(|call| PRINTED_REFUSED.map(|number| (call, number)));
+    let refused =
+        refused.chain([(ASK, 5), (WORDS, 5)]).map(|(call, number)| (call, format!("prints refused {number}")));
+    let lines = (1..=4).map(|lever| (UNIT, format!("prints lever {lever}")));
+    let lines = lines.chain((1..=5).map(|lever| (ASK, format!("prints lever {lever}"))));
+    let said = SENTENCES.map(|sentence| (WORDS, format!("says {sentence}")));
     let others = [
+        (UNIT, "prints decision"),
+        (UNIT, "prints rejected"),
+        (ASK, "prints passes"),
         (EXPLAIN, "no record"),
         (NEXT, "none"),
         (TRUST, "bank reordered"),
@@ -56,7 +92,8 @@ fn assert_reached(figures: &Figures) {
         (MARGIN, SEARCHED),
     ];
     let others = others.map(|(call, what)| (call, what.to_string()));
-    for (call, what) in gates.chain(verdicts).chain(levers).chain(margins).chain(others) {
+    let printed = refused.chain(lines).chain(said);
+    for (call, what) in gates.chain(verdicts).chain(levers).chain(margins).chain(printed).chain(others) {
         let times = figures.found.get(&(call, what.clone()));
         assert!(times.is_some_and(|times| *times > 10), "{}: {what}", CALLS[call].name);
     }
@@ -71,14 +108,17 @@ fn the_small_spaces_reach_everything() {
     assert_reached(&figures);
     // Only banks of 65,536 records and more; neither a request nor a list is a bank.
     let banks = (0..CALLS.len()).filter(|call| REFUSED[*call].contains(&1));
-    assert!(banks.clone().count() == 9 && banks.into_iter().all(|call| figures.refused.contains_key(&(call, 2))));
+    assert!(banks.clone().count() == 11 && banks.into_iter().all(|call| figures.refused.contains_key(&(call, 2))));
+    assert!(figures.refused.contains_key(&(WRITE_STORED, 18)));
+    assert!([UNIT, ASK, WORDS].iter().all(|call| figures.found.contains_key(&(*call, "prints refused 19".into()))));
 }
 
 #[test]
 fn random_cases_reach_everything() {
     let mut figures = Figures::default();
     for draws in &DRAWS {
-        (0..200 * draws.share).for_each(|number| note(&mut figures, &draws.asked, &(draws.case)(7, number)));
+        (0..20_000 * draws.share.max(20) / 100)
+            .for_each(|number| note(&mut figures, &draws.asked, &(draws.case)(7, number)));
     }
     assert_reached(&figures);
 }

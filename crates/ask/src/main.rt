@@ -2,11 +2,24 @@
 // with that id win, and the passes; `ask ID words` says the same in plain English.
 mod question;
 
+ghost use Prim.Native.Nat.{_≤_};
+ghost use lib.ListN.{length};
+ghost use Rattle.io.specs.Counts.{Counts};
+ghost use Rattle.printed.specs.Sizes.{inputBytes};
 use libc::STDERR_FILENO;
 use libc::STDIN_FILENO;
 use libc::STDOUT_FILENO;
+use printed::sizes::INPUT_BYTES;
+use printed::sizes::WORDS_BYTES;
 use question::Question;
-use rules::Written;
+
+// Standard input, as far as an answer depends on it.
+fn read_input(buffer: &mut [u8]) -> usize
+    requires { ⌜ inputBytes ≤ length (now buffer) ⌝ }
+    ensures { λ r. ⌜ Counts r (now (buffer .exit)) ⌝ }
+{
+    io::read_full(STDIN_FILENO, buffer)
+}
 
 fn main() {
     let question = question::asked();
@@ -17,11 +30,9 @@ fn main() {
         );
         return;
     }
-    let mut input = [0u8; 65_628];
-    let n = io::read_full(STDIN_FILENO, &mut input);
-    let mut answer = [0u8; 800];
-    let written = question::answer(question, &input[..n], &mut answer);
-    if let Written::Bytes(end) = written {
-        io::write_all(STDOUT_FILENO, &answer[..end]);
-    }
+    let mut input = [0u8; INPUT_BYTES];
+    let n = read_input(&mut input);
+    let mut out = [0u8; WORDS_BYTES];
+    let end = question::answer(question, &input[..n], &mut out);
+    io::write_all(STDOUT_FILENO, &out[..end]);
 }

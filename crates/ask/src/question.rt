@@ -1,12 +1,12 @@
 // What the program's arguments ask.
 ghost use mathlib.Core.Path.{_≡_};
-ghost use Prim.Native.Nat.{_-_};
+ghost use Prim.Native.Nat.{_-_, _≤_};
 ghost use Rattle.rules.specs.Choice.{below};
-ghost use lib.ListN.{length};
-ghost use Rattle.rules.specs.Numbers.{toldWritten};
-ghost use Rattle.rules.specs.Printed.{printOf};
+ghost use lib.ListN.{length, take};
+ghost use Rattle.io.specs.Counts.{Counts};
+ghost use Rattle.printed.specs.Sizes.{wordsBytes};
 ghost use Rattle.ask.specs.Question.{aboutOf, inWords, questionOf, answerText};
-use rules::Written;
+use printed::deliver::end_of;
 
 pub(crate) enum Question {
     // An id alone.
@@ -89,13 +89,15 @@ pub(crate) fn asked() -> Question {
     question_of(os::arg_count(), &id[..n], &form[..m])
 }
 
-// The answer to a question.
-pub(crate) fn answer(question: Question, input: &[u8], out: &mut [u8]) -> Written
-    ensures { λ r. ⌜ toldWritten r ≡ printOf (answerText question (now (input .entry))) (length (now (out .entry))) ⌝ }
+// The answer to a question: the first bytes of a buffer into which every text fits.
+pub(crate) fn answer(question: Question, input: &[u8], out: &mut [u8]) -> usize
+    requires { ⌜ wordsBytes ≤ length (now out) ⌝ }
+    ensures { λ r. ⌜ Counts r (now (out .exit)) ⌝ }
+    ensures { λ r. ⌜ take r (now (out .exit)) ≡ answerText question (now (input .entry)) ⌝ }
 {
     match question {
-        Question::Lines(id) => printed::ask_text(input, id, out),
-        Question::Words(id) => words::ask_words(input, id, out),
-        Question::Unclear => Written::Bytes(0),
+        Question::Lines(id) => end_of(printed::ask_text(input, id, out)),
+        Question::Words(id) => end_of(words::ask_words(input, id, out)),
+        Question::Unclear => 0,
     }
 }

@@ -1,16 +1,19 @@
 -- ANY TWO PERMITTED ANSWERS ARE EQUAL, and any two permitted buffers, for each call that a user makes. Assumes nothing.
-use Prim.Native.Nat.{ℕ, _≤_}
-use mathlib.Core.List.{List, []}
-use mathlib.Core.Path.{_≡_, sym, ap, subst, _∙_}
+use Prim.Native.Nat.{ℕ, _+_, _≤_}
+use mathlib.Core.List.{List, [], _++_}
+use mathlib.Core.Path.{_≡_, refl, sym, ap, subst, _∙_}
 use native.Mathlib.Omega.{arith}
-use lib.ListN.{length}
-use Rattle.rules.specs.Numbers.{roomFaults, answered, toldWritten}
+use lib.ListN.{length, length-append, take, drop}
+use lib.Seq.{take-at}
+use Rattle.rules.specs.Bytes.{filled}
+use Rattle.rules.specs.Numbers.{Answer, roomFaults, answered, unless, toldWritten}
 use Rattle.rules.specs.Printed.{unitText, askText, printOf, printBuffer}
 use Rattle.rules.specs.declared.forms.Written.{Written}
 use Rattle.rules.specs.declared.forms.Written.the-variants as written
 use Rattle.rules.proofs.ToldStored.{one-written}
 use Rattle.rules.proofs.Faults.{room-enough, room-passed}
 use Rattle.stored.proofs.Buffers.{none-answered}
+use Rattle.printed.specs.Ends.{endOf}
 
 -- An answer with a buffer at exit, as a promise permits them for a text, and that any two such are equal
 abbrev pub Permitted : List ℕ → List ℕ → Written → List ℕ → Type 0
@@ -39,3 +42,23 @@ printed-within {w} {n} t room e h =
 pub nothing-fits : (room : ℕ) → printOf [] room ≡ answered 0
 unfolding printOf
 nothing-fits room = rw (room-enough 0 room (omega arith))
+
+-- A TEXT THAT FITS IS NEVER REFUSED: it is what stands at the start of the buffer
+module _ {a : Answer ℕ} {n : ℕ} {d : List ℕ} (t out : List ℕ) (fits : length t ≤ length out) (told : a ≡ printOf t (length out)) (buffer : d ≡ printBuffer t out) (ends : n ≡ endOf a) where
+  end : n ≡ length t
+  unfolding printOf endOf
+  end =
+      let passed : unless (roomFaults (length t) (length out)) (answered (length t)) ≡ answered (length t) = rw (room-enough (length t) (length out) fits) in
+      ends ∙ ap endOf (told ∙ passed)
+
+  all : d ≡ t ++ drop (length t) out
+  unfolding printBuffer filled
+  all = buffer ∙ rw (room-enough (length t) (length out) fits)
+
+  pub printed-whole : take n d ≡ t
+  printed-whole = rw (all, end) (take-at t (drop (length t) out) (length t) refl)
+
+  pub printed-counts : (n ≤ length d) × (n ≡ length (take n d))
+  printed-counts =
+      let long : length d ≡ length t + length (drop (length t) out) = ap length all ∙ length-append t (drop (length t) out) in
+      (omega (arith, end), end ∙ sym (ap length printed-whole))

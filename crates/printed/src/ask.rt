@@ -5,8 +5,10 @@ ghost use lib.ListN.{length};
 ghost use Rattle.rules.specs.Numbers.{toldWritten, toldBoundaries};
 ghost use Rattle.rules.specs.Printed.{askFaults, askReport, askText, printOf, printBuffer};
 ghost use Rattle.kernel.specs.Refuse.{leading, toldLeading};
+ghost use Rattle.printed.specs.Sizes.{askBytes};
 ghost use Rattle.splice.specs.Written.{Written as Placed};
 use crate::deliver::deliver;
+use crate::sizes::ASK_BYTES;
 use counterfactual::what_would_win;
 use inputs::bank_in;
 use inputs::policy_in;
@@ -22,9 +24,6 @@ use rules::Outcome;
 use rules::Refusal;
 use rules::Written;
 use text::put_line;
-
-// A decision line, four levers and the passes always fit into it.
-const ASK_BYTES: usize = 670;
 
 // Whether the question is answered, and if not, why: 20 to 22, 19, validation, 3, and 5 last.
 pub fn ask_outcome(input: &[u8], id: u32) -> Outcome
@@ -44,7 +43,7 @@ pub fn ask_outcome(input: &[u8], id: u32) -> Outcome
 
 // The decision, the levers that win, the passes.
 fn put_asked(out: &mut [u8], asked: Boundaries) -> usize
-    requires { ⌜ 670 ≤ length (now out) ⌝ }
+    requires { ⌜ askBytes ≤ length (now out) ⌝ }
     ensures { λ r. ⌜ Placed (now (out .entry)) 0 (askReport (toldBoundaries asked .decision) (toldBoundaries asked)) (now (out .exit)) r ⌝ }
 {
     let levers = asked.levers;
@@ -56,7 +55,7 @@ fn put_asked(out: &mut [u8], asked: Boundaries) -> usize
 
 // The whole answer.
 fn put_ask(out: &mut [u8], input: &[u8], id: u32) -> usize
-    requires { ⌜ 670 ≤ length (now out) ⌝ }
+    requires { ⌜ askBytes ≤ length (now out) ⌝ }
     ensures { λ r. ⌜ Placed (now (out .entry)) 0 (askText id (now (input .entry))) (now (out .exit)) r ⌝ }
 {
     let outcome = ask_outcome(input, id);
@@ -72,7 +71,7 @@ fn put_ask(out: &mut [u8], input: &[u8], id: u32) -> usize
 // What `ask ID` prints for an input, at the start of a buffer, whose other bytes stay. Bad input, or an id that isn't listed, gets the line
 // of its refusal. Refused, with nothing written: 4.
 pub fn ask_text(input: &[u8], id: u32, out: &mut [u8]) -> Written
-    ensures { λ r. ⌜ (toldWritten r ≡ printOf (askText id (now (input .entry))) (length (now (out .entry)))) × (now (out .exit) ≡ printBuffer (askText id (now (input .entry))) (now (out .entry))) ⌝ }
+    ensures { λ r. ⌜ (toldWritten r ≡ printOf (askText id (now (input .entry))) (length (now (out .entry)))) × (now (out .exit) ≡ printBuffer (askText id (now (input .entry))) (now (out .entry))) × (length (askText id (now (input .entry))) ≤ askBytes) ⌝ }
 {
     let mut space = [0u8; ASK_BYTES];
     let end = put_ask(&mut space, input, id);

@@ -3,6 +3,7 @@ ghost use mathlib.Core.Path.{_≡_};
 ghost use lib.ListN.{length};
 ghost use Rattle.rules.specs.Numbers.{toldWritten};
 ghost use Rattle.rules.specs.Printed.{printOf, printBuffer};
+ghost use Rattle.printed.specs.Ends.{endOf};
 use rules::Refusal;
 use rules::Written;
 use splice::put_bytes;
@@ -16,4 +17,14 @@ pub fn deliver(text: &[u8], out: &mut [u8]) -> Written
     }
     put_bytes(out, 0, text);
     Written::Bytes(text.len())
+}
+
+// Where a text that was printed ends. A text that fits is never refused.
+pub fn end_of(written: Written) -> usize
+    ensures { λ r. ⌜ r ≡ endOf (toldWritten written) ⌝ }
+{
+    match written {
+        Written::Bytes(end) => end,
+        Written::Refused(_) => 0,
+    }
 }

@@ -2,6 +2,7 @@
 // nothing of their caller.
 pub mod ask;
 pub mod deliver;
+pub mod sizes;
 pub mod unit;
 
 pub use ask::ask_text;

@@ -6,8 +6,10 @@ ghost use lib.ListN.{length};
 ghost use Rattle.rules.specs.Records.{listedOf};
 ghost use Rattle.rules.specs.Numbers.{bankFaults, toldWritten};
 ghost use Rattle.rules.specs.Printed.{unitReport, unitText, printOf, printBuffer};
+ghost use Rattle.printed.specs.Sizes.{unitBytes};
 ghost use Rattle.splice.specs.Written.{Written as Placed};
 use crate::deliver::deliver;
+use crate::sizes::UNIT_BYTES;
 use counterfactual::decision_margin;
 use inputs::bank_in;
 use inputs::policy_in;
@@ -24,12 +26,9 @@ use rules::PolicySnapshot;
 use rules::Traced;
 use rules::Written;
 
-// A decision line, a line of counts and four levers always fit into it.
-const UNIT_BYTES: usize = 840;
-
 // The report over a bank of whole records.
 fn put_report(out: &mut [u8], policy: PolicySnapshot, bank: &[u8], request: KernelInput) -> usize
-    requires { ⌜ (840 ≤ length (now out)) × (bankFaults (now bank) ≡ []) ⌝ }
+    requires { ⌜ (unitBytes ≤ length (now out)) × (bankFaults (now bank) ≡ []) ⌝ }
     ensures { λ r. ⌜ Placed (now (out .entry)) 0 (unitReport policy request (listedOf (now (bank .entry)))) (now (out .exit)) r ⌝ }
 {
     let traced = prescribe_with_trace(policy, bank, request);
@@ -46,7 +45,7 @@ fn put_report(out: &mut [u8], policy: PolicySnapshot, bank: &[u8], request: Kern
 
 // The whole answer.
 fn put_unit(out: &mut [u8], input: &[u8]) -> usize
-    requires { ⌜ 840 ≤ length (now out) ⌝ }
+    requires { ⌜ unitBytes ≤ length (now out) ⌝ }
     ensures { λ r. ⌜ Placed (now (out .entry)) 0 (unitText (now (input .entry))) (now (out .exit)) r ⌝ }
 {
     let outcome = program_outcome(input);
@@ -59,9 +58,9 @@ fn put_unit(out: &mut [u8], input: &[u8]) -> usize
 }
 
 // What the unit's program prints for an input, at the start of a buffer, whose other bytes stay. Bad input gets the line of its refusal.
-// Refused, with nothing written: 4.
+// Refused, with nothing written: 4, where the buffer has fewer than 840 bytes and the text more than the buffer.
 pub fn unit_text(input: &[u8], out: &mut [u8]) -> Written
-    ensures { λ r. ⌜ (toldWritten r ≡ printOf (unitText (now (input .entry))) (length (now (out .entry)))) × (now (out .exit) ≡ printBuffer (unitText (now (input .entry))) (now (out .entry))) ⌝ }
+    ensures { λ r. ⌜ (toldWritten r ≡ printOf (unitText (now (input .entry))) (length (now (out .entry)))) × (now (out .exit) ≡ printBuffer (unitText (now (input .entry))) (now (out .entry))) × (length (unitText (now (input .entry))) ≤ unitBytes) ⌝ }
 {
     let mut space = [0u8; UNIT_BYTES];
     let end = put_unit(&mut space, input);

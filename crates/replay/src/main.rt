@@ -1,8 +1,7 @@
-// Replays a fixed list of questions with the answers that are owed, and tells how many there are and how many differ. The list is standard
-// input; compare/cases made it from the Rust. No Rust is needed here.
-mod above;
+// Replays a fixed list of questions with the answers that are owed, and tells how many there are, how many differ, and who told them. The list
+// is standard input; compare/cases made it from the Rust and from a second reading of the rules. No Rust is needed here.
+mod calls;
 mod entry;
-mod kernel;
 mod list;
 
 use libc::STDIN_FILENO;
@@ -15,7 +14,13 @@ fn main() {
     io::print_decimal(STDOUT_FILENO, told.answers);
     io::write_all(STDOUT_FILENO, b" answers, ");
     io::print_decimal(STDOUT_FILENO, told.different);
-    io::write_all(STDOUT_FILENO, b" differ\n");
+    io::write_all(STDOUT_FILENO, b" differ; told by the Rust ");
+    io::print_decimal(STDOUT_FILENO, told.rust);
+    io::write_all(STDOUT_FILENO, b", by the second reading ");
+    io::print_decimal(STDOUT_FILENO, told.second);
+    io::write_all(STDOUT_FILENO, b", by both ");
+    io::print_decimal(STDOUT_FILENO, told.both);
+    io::write_all(STDOUT_FILENO, b"\n");
     if told.left != 0 {
         io::write_all(STDOUT_FILENO, b"the list is cut short\n");
     }

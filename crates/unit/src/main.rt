@@ -1,15 +1,38 @@
 // The unit's program: standard input has the policy, the bank and the request as three fields; standard output gets the answer. What it
 // answers depends on no byte after the first 65,628, so it reads no more.
+ghost use mathlib.Core.Path.{_≡_};
+ghost use Prim.Native.Nat.{_≤_};
+ghost use lib.ListN.{length, take};
+ghost use Rattle.io.specs.Counts.{Counts};
+ghost use Rattle.rules.specs.Printed.{unitText};
+ghost use Rattle.printed.specs.Sizes.{inputBytes, unitBytes};
 use libc::STDIN_FILENO;
 use libc::STDOUT_FILENO;
-use rules::Written;
+use printed::deliver::end_of;
+use printed::sizes::INPUT_BYTES;
+use printed::sizes::UNIT_BYTES;
+
+// Standard input, as far as an answer depends on it.
+fn read_input(buffer: &mut [u8]) -> usize
+    requires { ⌜ inputBytes ≤ length (now buffer) ⌝ }
+    ensures { λ r. ⌜ Counts r (now (buffer .exit)) ⌝ }
+{
+    io::read_full(STDIN_FILENO, buffer)
+}
+
+// What is printed for an input: the first bytes of a buffer into which every text fits.
+fn answer(input: &[u8], out: &mut [u8]) -> usize
+    requires { ⌜ unitBytes ≤ length (now out) ⌝ }
+    ensures { λ r. ⌜ Counts r (now (out .exit)) ⌝ }
+    ensures { λ r. ⌜ take r (now (out .exit)) ≡ unitText (now (input .entry)) ⌝ }
+{
+    end_of(printed::unit_text(input, out))
+}
 
 fn main() {
-    let mut input = [0u8; 65_628];
-    let n = io::read_full(STDIN_FILENO, &mut input);
-    let mut answer = [0u8; 840];
-    let written = printed::unit_text(&input[..n], &mut answer);
-    if let Written::Bytes(end) = written {
-        io::write_all(STDOUT_FILENO, &answer[..end]);
-    }
+    let mut input = [0u8; INPUT_BYTES];
+    let n = read_input(&mut input);
+    let mut out = [0u8; UNIT_BYTES];
+    let end = answer(&input[..n], &mut out);
+    io::write_all(STDOUT_FILENO, &out[..end]);
 }

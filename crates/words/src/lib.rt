@@ -9,6 +9,7 @@ ghost use Rattle.rules.specs.Listing.{firstListed};
 ghost use Rattle.rules.specs.Printed.{printOf, printBuffer};
 ghost use Rattle.rules.specs.Words.{isOff, wordsReport, askWords};
 ghost use Rattle.splice.specs.Written.{Written as Placed};
+ghost use Rattle.printed.specs.Sizes.{wordsBytes};
 ghost use Rattle.words.specs.Nothing.{nothingWords};
 use bank::model_at;
 use counterfactual::what_would_win;
@@ -19,6 +20,7 @@ use kernel::listing::first_listed;
 use lines::put_refused;
 use printed::ask::ask_outcome;
 use printed::deliver::deliver;
+use printed::sizes::WORDS_BYTES;
 use rules::Boundaries;
 use rules::Found;
 use rules::Outcome;
@@ -26,9 +28,6 @@ use rules::Written;
 use searches::pass::selected;
 use sentences::put_levers_words;
 use sentences::put_remark;
-
-// Four sentences always fit into it.
-const WORDS_BYTES: usize = 800;
 
 // Whether a model is listed and switched off.
 fn is_off(bank: &[u8], id: u32) -> bool
@@ -45,7 +44,7 @@ fn is_off(bank: &[u8], id: u32) -> bool
 
 // No lever wins: why.
 fn put_nothing(out: &mut [u8], id: u32, off: bool) -> usize
-    requires { ⌜ 800 ≤ length (now out) ⌝ }
+    requires { ⌜ wordsBytes ≤ length (now out) ⌝ }
     ensures { λ r. ⌜ Placed (now (out .entry)) 0 (nothingWords id off) (now (out .exit)) r ⌝ }
 {
     if off {
@@ -63,7 +62,7 @@ fn put_nothing(out: &mut [u8], id: u32, off: bool) -> usize
 
 // The sentences of an answer.
 fn put_words_report(out: &mut [u8], asked: Boundaries, id: u32, off: bool) -> usize
-    requires { ⌜ 800 ≤ length (now out) ⌝ }
+    requires { ⌜ wordsBytes ≤ length (now out) ⌝ }
     ensures { λ r. ⌜ Placed (now (out .entry)) 0 (wordsReport id off (toldBoundaries asked)) (now (out .exit)) r ⌝ }
 {
     let decision = asked.decision;
@@ -85,7 +84,7 @@ fn put_words_report(out: &mut [u8], asked: Boundaries, id: u32, off: bool) -> us
 
 // The whole answer.
 fn put_answer(out: &mut [u8], input: &[u8], id: u32) -> usize
-    requires { ⌜ 800 ≤ length (now out) ⌝ }
+    requires { ⌜ wordsBytes ≤ length (now out) ⌝ }
     ensures { λ r. ⌜ Placed (now (out .entry)) 0 (askWords id (now (input .entry))) (now (out .exit)) r ⌝ }
 {
     let outcome = ask_outcome(input, id);
@@ -100,7 +99,7 @@ fn put_answer(out: &mut [u8], input: &[u8], id: u32) -> usize
 // What `ask ID words` prints for an input, at the start of a buffer, whose other bytes stay. Bad input, or an id that isn't listed, gets
 // the line of its refusal. Refused, with nothing written: 4.
 pub fn ask_words(input: &[u8], id: u32, out: &mut [u8]) -> Written
-    ensures { λ r. ⌜ (toldWritten r ≡ printOf (askWords id (now (input .entry))) (length (now (out .entry)))) × (now (out .exit) ≡ printBuffer (askWords id (now (input .entry))) (now (out .entry))) ⌝ }
+    ensures { λ r. ⌜ (toldWritten r ≡ printOf (askWords id (now (input .entry))) (length (now (out .entry)))) × (now (out .exit) ≡ printBuffer (askWords id (now (input .entry))) (now (out .entry))) × (length (askWords id (now (input .entry))) ≤ wordsBytes) ⌝ }
 {
     let mut space = [0u8; WORDS_BYTES];
     let end = put_answer(&mut space, input, id);

@@ -1,21 +1,26 @@
-//! `compare [--seed N] [--count N] [--from N] -- PROGRAM [WORD..]`: every call on the cases of the small spaces and on `count` random
-//! ones, and each group of calls on a quarter as many of its own; the library against the Rust and the second reading. PROGRAM calls
-//! the library (`answer/answer.c`), with the emulator before it where one is needed. Ends with 1 at the first difference.
-use compare::calls::{Call, CALLS, MARGIN, WIN};
+//! `compare [--short] [--seed N] [--count N] [--from N] -- PROGRAM [WORD..]`: every call on the cases of the small spaces and on random ones,
+//! so many decisions as `count` says and the other sets by their share of it; the library against the Rust and the second reading. PROGRAM
+//! calls the library (`answer/answer.c`), with the emulator before it where one is needed. Ends with 1 at the first difference.
+use compare::calls::{CALLS, CHECKED, EXPLAIN, MARGIN, PRESCRIBE, WIN};
 use compare::case::Case;
 use compare::figures::{Figures, Table, SEARCHED};
-use compare::generate::{Asked, DRAWS, SPACES};
+use compare::generate::{Asked, Space, DRAWS, SPACES};
 use compare::library::Library;
 use compare::second::bytes::{models_of, policy_of, request_of, POLICY_BYTES, RECORD_BYTES, REQUEST_BYTES};
-use compare::versus::{differs, reduced, Difference};
+use compare::versus::{differs, reduced, Batch, Difference, Named, Owing};
 use std::env;
 use std::process::exit;
+use std::rc::Rc;
+use std::time::{Duration, Instant};
 
 const SEED: u64 = 1;
-const COUNT: u64 = 200_000;
-const USAGE: &str = "usage: compare [--seed N] [--count N] [--from N] -- PROGRAM [WORD..]";
+const COUNT: u64 = 1_000_000;
+/// The count of a short run, which leaves the longest spaces out.
+const SHORT: u64 = 100_000;
+const USAGE: &str = "usage: compare [--short] [--seed N] [--count N] [--from N] -- PROGRAM [WORD..]";
 
 struct Wanted {
+    short: bool,
     seed: u64,
     count: u64,
     /// The number of the first random case, to ask one again.
@@ -23,42 +28,53 @@ struct Wanted {
     program: Vec<String>,
 }
 
+/// The library, what waits to be asked of it, and how far the run is.
+struct Run {
+    library: Library,
+    batch: Batch,
+    calls: u64,
+    started: Instant,
+    shown: Instant,
+}
+
 fn main() {
     let wanted = wanted().unwrap_or_else(|why| {
         eprintln!("compare: {why}\n{USAGE}");
         exit(2)
     });
-    let mut library = Library::start(wanted.program.clone()).unwrap_or_else(|why| {
+    let library = Library::start(wanted.program.clone()).unwrap_or_else(|why| {
         eprintln!("compare: {why}");
         exit(2)
     });
-    println!("seed {}, {} random cases from number {}", wanted.seed, wanted.count, wanted.from);
-    let (small, random) = (small_spaces(&mut library), random_cases(&mut library, &wanted));
+    let (started, short) = (Instant::now(), if wanted.short { ", a short run" } else { "" });
+    let mut run = Run { library, batch: Batch::default(), calls: 0, started, shown: started };
+    println!("seed {}, {} random decisions from number {}{short}", wanted.seed, wanted.count, wanted.from);
+    let (small, random) = (small_spaces(&mut run, wanted.short), random_cases(&mut run, &wanted));
     print!("{}", Table(&[("small spaces", &small), ("random", &random)]));
-    let asked = small.asked.iter().zip(random.asked).map(|(small, random)| small + random);
-    let asked: Vec<String> = CALLS.iter().zip(asked).map(|(call, cases)| format!("{} {cases}", call.name)).collect();
-    let searches = |call: usize, of: &Figures| of.found.get(&(call, SEARCHED.into())).copied().unwrap_or(0);
-    let searched: u64 = [WIN, MARGIN].iter().map(|call| searches(*call, &small) + searches(*call, &random)).sum();
-    println!("{}; {searched} searches of more than 2 passes: 0 differences", asked.join(", "));
+    run.close(&small, &random);
 }
 
 fn wanted() -> Result<Wanted, String> {
-    let mut wanted = Wanted { seed: SEED, count: COUNT, from: 0, program: Vec::new() };
+    let mut wanted = Wanted { short: false, seed: SEED, count: 0, from: 0, program: Vec::new() };
+    let mut count = None;
     let mut arguments = env::args().skip(1);
     while let Some(name) = arguments.next() {
-        if name == "--" {
-            wanted.program = arguments.collect();
-            break;
-        }
-        let number = arguments.next().ok_or(format!("{name} needs a number"))?;
-        let number = number.parse().map_err(|_| format!("{name} {number}: not a number"))?;
         match name.as_str() {
-            "--seed" => wanted.seed = number,
-            "--count" => wanted.count = number,
-            "--from" => wanted.from = number,
-            _ => return Err(format!("{name} is not known")),
+            "--" => wanted.program = arguments.by_ref().collect(),
+            "--short" => wanted.short = true,
+            _ => {
+                let number = arguments.next().ok_or(format!("{name} needs a number"))?;
+                let number = number.parse().map_err(|_| format!("{name} {number}: not a number"))?;
+                match name.as_str() {
+                    "--seed" => wanted.seed = number,
+                    "--count" => count = Some(number),
+                    "--from" => wanted.from = number,
+                    _ => return Err(format!("{name} is not known")),
+                }
+            }
         }
     }
+    wanted.count = count.unwrap_or(if wanted.short { SHORT } else { COUNT });
     if wanted.program.is_empty() {
         return Err("no program that calls the library".into());
     }
@@ -69,55 +85,97 @@ fn wanted() -> Result<Wanted, String> {
     Ok(wanted)
 }
 
-fn small_spaces(library: &mut Library) -> Figures {
+fn small_spaces(run: &mut Run, short: bool) -> Figures {
     let mut figures = Figures::default();
-    for space in &SPACES {
+    let wanted = |space: &&Space| !(short && space.long);
+    for space in SPACES.iter().filter(wanted) {
         let mut cases = 0;
         (space.each)(&mut |case| {
             let name = format!("case {cases} of the small spaces, {}", space.name);
-            ask(library, &mut figures, &space.asked, &case, &name);
+            run.ask(&mut figures, &space.asked, case, name);
             cases += 1;
         });
-        println!("small spaces, {}: {cases} cases, 0 differences", space.name);
+        run.settle();
+        run.show(&format!("small spaces, {}: {cases} cases", space.name));
     }
     figures
 }
 
-fn random_cases(library: &mut Library, wanted: &Wanted) -> Figures {
+fn random_cases(run: &mut Run, wanted: &Wanted) -> Figures {
     let mut figures = Figures::default();
     for draws in &DRAWS {
         let count = (wanted.count * draws.share).div_ceil(100);
-        let step = count.div_ceil(10);
-        for done in 1..=count {
-            let number = wanted.from + done - 1;
-            let case = (draws.case)(wanted.seed, number);
+        for number in wanted.from..wanted.from + count {
             let name = format!("{} case {number} of seed {}", draws.name, wanted.seed);
-            ask(library, &mut figures, &draws.asked, &case, &name);
-            if done % step == 0 || done == count {
-                println!("{}: {done} of {count} cases, 0 differences", draws.name);
+            run.ask(&mut figures, &draws.asked, (draws.case)(wanted.seed, number), name);
+            if run.shown.elapsed() > PAUSE {
+                run.show(&format!("{}: {} of {count} cases", draws.name, number + 1 - wanted.from));
             }
         }
+        run.settle();
+        run.show(&format!("{}: {count} of {count} cases", draws.name));
     }
     figures
 }
 
-/// Asks the calls of a set, notes what is owed, and ends the run at a difference.
-fn ask(library: &mut Library, figures: &mut Figures, asked: &Asked, case: &Case, name: &str) {
-    for (at, call) in CALLS.iter().enumerate().filter(|(at, _)| asked.asks(*at, case)) {
-        let owed = call.owed(case);
-        figures.note(at, case, &owed);
-        if let Some(difference) = differs(library, call, case, &owed) {
-            show(library, call, case, name, &difference);
+/// How long it may be until the next line.
+const PAUSE: Duration = Duration::from_secs(20);
+
+impl Run {
+    /// Asks the calls of a set, notes what is owed, and ends the run at a difference.
+    fn ask(&mut self, figures: &mut Figures, asked: &Asked, case: Case, name: String) {
+        let named = Rc::new(Named { case, name });
+        for (at, call) in CALLS.iter().enumerate().filter(|(at, _)| asked.asks(*at, &named.case)) {
+            let ask = call.ask(&named.case);
+            let owed = call.owed(&ask);
+            figures.note(at, &named.case, &owed);
+            self.calls += 1;
+            let found = self.batch.put(&mut self.library, Owing::new(at, &named, &ask, &owed));
+            self.end_at(found);
+        }
+    }
+
+    /// Asks what still waits.
+    fn settle(&mut self) {
+        let found = self.batch.settle(&mut self.library);
+        self.end_at(found);
+    }
+
+    fn end_at(&mut self, found: Option<(Owing, Difference)>) {
+        if let Some((owing, difference)) = found {
+            show(&mut self.library, &owing, &difference);
             exit(1);
         }
     }
+
+    fn show(&mut self, what: &str) {
+        println!("{what}; {} calls so far, {} s, 0 differences", self.calls, self.started.elapsed().as_secs());
+        self.shown = Instant::now();
+    }
+
+    /// The last line: how often each call was asked.
+    fn close(&self, small: &Figures, random: &Figures) {
+        let asked: Vec<u64> = small.asked.iter().zip(random.asked).map(|(small, random)| small + random).collect();
+        let of_each: Vec<String> =
+            CALLS.iter().zip(&asked).map(|(call, cases)| format!("{} {cases}", call.name)).collect();
+        let searches = |call: usize, of: &Figures| of.found.get(&(call, SEARCHED.into())).copied().unwrap_or(0);
+        let searched: u64 = [WIN, MARGIN].iter().map(|call| searches(*call, small) + searches(*call, random)).sum();
+        let decisions: u64 = [PRESCRIBE, CHECKED, EXPLAIN].iter().map(|call| asked[*call]).sum();
+        println!("{}", of_each.join(", "));
+        println!(
+            "{} calls, {decisions} of them decisions and {searched} boundary searches of more than 2 passes, in {} s: 0 differences",
+            self.calls,
+            self.started.elapsed().as_secs()
+        );
+    }
 }
 
-fn show(library: &mut Library, call: &Call, case: &Case, name: &str, difference: &Difference) {
-    println!("DIFFERENCE in {}, {name}\n{case}\n{difference}", call.name);
+fn show(library: &mut Library, owing: &Owing, difference: &Difference) {
+    let (call, Named { case, name }) = (owing.call, &*owing.named);
+    println!("DIFFERENCE in {}, {name}\n{case}\n{difference}", CALLS[call].name);
     let small = reduced(library, call, case);
     if small.bank.len() < case.bank.len() {
-        let difference = differs(library, call, &small, &call.owed(&small)).expect("reduced while it differs");
+        let difference = differs(library, call, &small).expect("reduced while it differs");
         println!("the same call on fewer records:\n{small}\n{difference}");
     }
     show_fields(&small);

@@ -1,6 +1,6 @@
 //! `decision_margin`: how far each lever of the selected model can move until another one is selected.
 use super::what_would_win::{need, second};
-use super::{snapshot, Answer, Call, Handed};
+use super::{snapshot, Answer, Call, Handed, PLAIN};
 use crate::case::Ask;
 use crate::second::boundaries::{boundaries_bytes, Boundaries};
 use crate::second::bytes::{policy_of, request_of};
@@ -15,7 +15,8 @@ pub const CALL: Call = Call {
     many_passes: true,
     need,
     second,
-    rust,
+    answer: rust,
+    ..PLAIN
 };
 
 /// All but the passes is the Rust's, and a search that counts must find the same.

@@ -1,13 +1,13 @@
 //! `find`: the place of the first listed record with an id.
-use super::{Answer, Call, Handed};
-use crate::case::{Ask, Case};
+use super::{Answer, Call, Handed, PLAIN};
+use crate::case::Ask;
 use crate::second::bytes::{first_listed, PLACE_BYTES};
 use crate::second::refusals::{self, Passed};
 
 pub const CALL: Call =
-    Call { name: "find", takes: &[Handed::Bank, Handed::Id, Handed::Out], many_passes: false, need, second, rust };
+    Call { name: "find", takes: &[Handed::Bank, Handed::Id, Handed::Out], need, second, answer: reading, ..PLAIN };
 
-fn need(_: &Case) -> usize {
+fn need(_: &Ask) -> usize {
     PLACE_BYTES
 }
 
@@ -17,7 +17,7 @@ fn second(ask: &Ask) -> Passed {
     refusals::room(ask.room, PLACE_BYTES)
 }
 
-/// The Rust has no call for this, and takes the first listed record wherever it looks an id up; the place is the second reading's.
-fn rust(ask: &Ask) -> Answer {
-    Answer::of(first_listed(ask.bank, ask.id).to_le_bytes().to_vec())
+/// The Rust has no call for this, and takes the first listed record wherever it looks an id up.
+fn reading(ask: &Ask) -> Answer {
+    Answer::of(first_listed(ask.bank, ask.id).to_le_bytes().to_vec()).second()
 }

@@ -1,21 +1,21 @@
 //! `next_eligible`: the place of the first eligible record of an explanation, from a place on.
 use super::explain::explanation;
-use super::{Answer, Call, Handed};
-use crate::case::{Ask, Case, Listed};
+use super::{Answer, Call, Handed, PLAIN};
+use crate::case::{Ask, Listed};
 use crate::second::explanation::{explanation_bytes, next_eligible, NEXT_BYTES, NO_MORE};
 use crate::second::refusals::{self, Passed};
 use oracle::kernel::Explanation;
 
 pub const CALL: Call = Call {
     name: "next_eligible",
-    takes: &[Handed::Listed, Handed::From, Handed::Out],
-    many_passes: false,
+    takes: &[Handed::Listed, Handed::Place, Handed::Out],
     need,
     second,
-    rust,
+    answer: rust,
+    ..PLAIN
 };
 
-fn need(_: &Case) -> usize {
+fn need(_: &Ask) -> usize {
     NEXT_BYTES
 }
 
@@ -26,13 +26,15 @@ fn second(ask: &Ask) -> Passed {
 
 /// Of its own explanation the Rust says which records are eligible; of any other bytes the second reading does.
 fn rust(ask: &Ask) -> Answer {
-    let next = next_eligible(&list_to_read(ask), ask.from);
-    if let Some(explanation) = explained(ask) {
-        let mut places = explanation.eligible().map(|candidate| u64::from(candidate.model_index));
-        let told = places.find(|place| *place >= ask.from).unwrap_or(NO_MORE);
-        assert_eq!(next, told, "the second reading and the Rust agree on the next eligible record");
-    }
-    Answer::of(next.to_le_bytes().to_vec())
+    let next = next_eligible(&list_to_read(ask), ask.place);
+    let answer = Answer::of(next.to_le_bytes().to_vec());
+    let Some(explanation) = explained(ask) else {
+        return answer.second();
+    };
+    let mut places = explanation.eligible().map(|candidate| u64::from(candidate.model_index));
+    let told = places.find(|place| *place >= ask.place).unwrap_or(NO_MORE);
+    assert_eq!(next, told, "the second reading and the Rust agree on the next eligible record");
+    answer
 }
 
 /// The Rust's explanation, where that is the list and there is one: of a question that `explain` would refuse there is none.

@@ -1,19 +1,19 @@
 //! `prescribe`: the decision and its nine counts.
-use super::{snapshot, Answer, Call, Handed};
-use crate::case::{Ask, Case};
+use super::{snapshot, Answer, Call, Handed, PLAIN};
+use crate::case::Ask;
 use crate::second::bytes::{request_of, traced_bytes, TRACED_BYTES};
 use crate::second::refusals::{self, Passed};
 
 pub const CALL: Call = Call {
     name: "prescribe",
     takes: &[Handed::Policy, Handed::Request, Handed::Bank, Handed::Out],
-    many_passes: false,
     need,
     second,
-    rust,
+    answer: rust,
+    ..PLAIN
 };
 
-pub(super) fn need(_: &Case) -> usize {
+pub(super) fn need(_: &Ask) -> usize {
     TRACED_BYTES
 }
 
@@ -24,7 +24,11 @@ pub(super) fn second(ask: &Ask) -> Passed {
     refusals::room(ask.room, TRACED_BYTES)
 }
 
+/// The Rust has the decision without its counts, and in a row of requests, too: all are the same one.
 fn rust(ask: &Ask) -> Answer {
-    let (decision, trace) = snapshot(ask).prescribe_with_trace(request_of(ask.request));
+    let (snapshot, request) = (snapshot(ask), request_of(ask.request));
+    let (decision, trace) = snapshot.prescribe_with_trace(request);
+    assert_eq!(snapshot.prescribe(request), decision, "the Rust's plain decision is the traced one");
+    assert_eq!(snapshot.prescribe_batch(&[request]), [decision], "and so is that of a row");
     Answer::of(traced_bytes(&decision, &trace.rejections))
 }

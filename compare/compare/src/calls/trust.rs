@@ -1,6 +1,6 @@
 //! `trust`: the bank put in order, then validated. A refusal that validation finds leaves it ordered.
 use super::validate::second;
-use super::{nothing, Answer, Call, Handed};
+use super::{Answer, Call, Handed, PLAIN};
 use crate::case::Ask;
 use crate::second::bytes::{bank_bytes, models_of, policy_of, Policy};
 use crate::second::catalogue::{trust_error, trusted};
@@ -8,7 +8,7 @@ use oracle::kernel::{KernelModel, PolicySnapshot, TrustPolicyError};
 
 /// 22, 1, 2 as in `validate`; then 16, 17 and 10 to 15, which the Rust tells.
 pub const CALL: Call =
-    Call { name: "trust", takes: &[Handed::Policy, Handed::Bank], many_passes: true, need: nothing, second, rust };
+    Call { name: "trust", takes: &[Handed::Policy, Handed::Bank], many_passes: true, second, answer: rust, ..PLAIN };
 
 /// The Rust orders a list of its own and shows it only where nothing is refused. Elsewhere the bank at exit is the second reading's.
 fn rust(ask: &Ask) -> Answer {

@@ -1,19 +1,19 @@
 //! `utility_for_model`: the utility of the first listed record with an id, if that record is eligible.
-use super::{snapshot, Answer, Call, Handed};
-use crate::case::{Ask, Case};
+use super::{snapshot, Answer, Call, Handed, PLAIN};
+use crate::case::Ask;
 use crate::second::bytes::{request_of, UTILITY_BYTES};
 use crate::second::refusals::{self, Passed, Refusal};
 
 pub const CALL: Call = Call {
     name: "utility_for_model",
     takes: &[Handed::Policy, Handed::Request, Handed::Bank, Handed::Id, Handed::Out],
-    many_passes: false,
     need,
     second,
-    rust,
+    answer: rust,
+    ..PLAIN
 };
 
-fn need(_: &Case) -> usize {
+fn need(_: &Ask) -> usize {
     UTILITY_BYTES
 }
 

@@ -1,12 +1,12 @@
 //! `validate`: whether a policy and its models keep their limits. It writes nothing.
-use super::{nothing, snapshot, Answer, Call, Handed};
+use super::{snapshot, Answer, Call, Handed, PLAIN};
 use crate::case::Ask;
 use crate::second::bytes::policy_of;
 use crate::second::catalogue::{policy_error, validation};
 use crate::second::refusals::{self, Passed};
 
 pub const CALL: Call =
-    Call { name: "validate", takes: &[Handed::Policy, Handed::Bank], many_passes: true, need: nothing, second, rust };
+    Call { name: "validate", takes: &[Handed::Policy, Handed::Bank], many_passes: true, second, answer: rust, ..PLAIN };
 
 /// 22, 1, 2; then 10 to 15, which the Rust tells.
 pub(super) fn second(ask: &Ask) -> Passed {

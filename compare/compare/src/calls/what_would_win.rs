@@ -1,6 +1,6 @@
 //! `what_would_win`: for each lever of one model, where it would have to be for that model to be selected.
-use super::{snapshot, Answer, Call, Handed};
-use crate::case::{Ask, Case};
+use super::{snapshot, Answer, Call, Handed, PLAIN};
+use crate::case::Ask;
 use crate::second::boundaries::{boundaries_bytes, Boundaries, BOUNDARIES_BYTES};
 use crate::second::bytes::{policy_of, request_of};
 use crate::second::refusals::{self, Passed, Refusal};
@@ -13,10 +13,11 @@ pub const CALL: Call = Call {
     many_passes: true,
     need,
     second,
-    rust,
+    answer: rust,
+    ..PLAIN
 };
 
-pub(super) fn need(_: &Case) -> usize {
+pub(super) fn need(_: &Ask) -> usize {
     BOUNDARIES_BYTES
 }
 

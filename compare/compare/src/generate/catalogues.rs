@@ -15,7 +15,6 @@ pub fn each(visit: Visit) {
     orders(visit);
     lengths(visit);
     sizes(visit);
-    largest(visit);
 }
 
 /// Nothing to refuse, with these ids in this order. The latency tells a record's old place, so that equal ids can be told apart.
@@ -154,7 +153,7 @@ fn lengths(visit: Visit) {
 /// Rising, falling and in any order, with each fault at the first place, in the middle and at the last.
 fn sizes(visit: Visit) {
     let mut r = Random::new(900);
-    for records in [1, 2, 22, 900] {
+    for records in [1, 2, 22, 900, 1_394] {
         let rising: Vec<u32> = (1..=records as u32).collect();
         let falling: Vec<u32> = rising.iter().rev().copied().collect();
         let mixed: Vec<u32> = r.order(records).into_iter().map(|at| rising[at]).collect();
@@ -171,7 +170,7 @@ fn sizes(visit: Visit) {
 
 /// Banks of 65,535 records whose ids rise, but for an equal pair near the front: others take long. One more record is 2, and one more
 /// byte 1.
-fn largest(visit: Visit) {
+pub fn largest(visit: Visit) {
     let rising: Vec<u32> = (1..=MOST as u32).collect();
     visit(sound(&rising).case(1));
     for (number, fault) in FAULTS.iter().enumerate() {
@@ -221,7 +220,7 @@ pub fn random(seed: u64, number: u64) -> Case {
     case
 }
 
-fn make_sound(r: &mut Random, setting: &mut Setting) {
+pub fn make_sound(r: &mut Random, setting: &mut Setting) {
     let policy = &mut setting.policy;
     policy.hard_risk_limit_bps = r.pick(&[0, 9_000, 10_000]);
     policy.minimum_confidence_bps = r.pick(&[0, 2_000, 10_000]);

@@ -1,4 +1,4 @@
-//! Banks of 65,535 records and more.
+//! Banks of every size that some rule names, up to 65,535 records and more.
 use super::court::{good, over, rejected, REASONS};
 use super::random::Random;
 use super::{base, Visit};
@@ -24,6 +24,9 @@ pub fn each(visit: Visit) {
         visit(case);
     }
     let mut r = Random::new(65_535);
+    for records in [0, 1, 2, 22, 900, 901, 1_394, 1_395] {
+        (0..20).for_each(|_| visit(base::setting(&mut r, records).case(records as u32)));
+    }
     for records in [MOST, MOST, MOST, MOST, MOST + 1] {
         visit(base::setting(&mut r, records).case(records as u32));
     }

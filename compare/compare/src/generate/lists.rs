@@ -5,6 +5,7 @@ use super::random::Random;
 use super::spaces::pairs;
 use super::{random_case, small_size, Setting, Visit};
 use crate::case::{Case, Listed, Room};
+use crate::second::bytes::RECORD_BYTES;
 use crate::second::explanation::EXPLANATION_BYTES;
 use oracle::kernel::KernelModel;
 
@@ -37,7 +38,7 @@ pub fn mixed(records: usize, stop: usize) -> Setting {
 
 /// A list of so many bytes, whatever is needed.
 fn list_of(bytes: usize, case: Case) -> Case {
-    let need = Case { list_room: Room::Exact, ..case.clone() }.list_room();
+    let need = case.bank.len() / RECORD_BYTES * EXPLANATION_BYTES;
     let list_room = if bytes < need { Room::ShortBy(need - bytes) } else { Room::LongerBy(bytes - need) };
     Case { list_room, ..case }
 }
@@ -63,8 +64,8 @@ fn both_rooms(visit: Visit) {
 }
 
 /// A case whose list is these bytes.
-pub fn of_bytes(list: Vec<u8>, from: u64) -> Case {
-    Case { listed: Listed::Bytes(list), from, ..mixed(1, 0).case(1) }
+pub fn of_bytes(list: Vec<u8>, place: u64) -> Case {
+    Case { listed: Listed::Bytes(list), place, ..mixed(1, 0).case(1) }
 }
 
 /// Records whose other bytes are all `rest`.
@@ -119,22 +120,22 @@ pub const FAR: [u64; 10] = [
 ];
 
 fn far_places(visit: Visit) {
-    for from in FAR {
-        visit(of_bytes(with_verdicts(&[ELIGIBLE; 3], 0), from));
-        visit(Case { from, ..mixed(22, 0).case(1) });
+    for place in FAR {
+        visit(of_bytes(with_verdicts(&[ELIGIBLE; 3], 0), place));
+        visit(Case { place, ..mixed(22, 0).case(1) });
     }
 }
 
 /// The sizes that are asked of every call, with and without room, and places around their ends.
 fn sizes(visit: Visit) {
-    for records in [0, 1, 2, 22, 900, MOST, MOST + 1] {
+    for records in [0, 1, 2, 22, 900, 1_394, MOST, MOST + 1] {
         for (stop, list_room) in pairs(&[0, 1], &[Room::Exact, Room::ShortBy(1), Room::LongerBy(7)]) {
-            let from = records.saturating_sub(stop) as u64;
-            visit(Case { list_room, from, ..mixed(records, stop).case(1) });
+            let place = records.saturating_sub(stop) as u64;
+            visit(Case { list_room, place, ..mixed(records, stop).case(1) });
         }
     }
-    visit(Case { from: 1, ..last_alone(MOST) });
-    visit(Case { from: MOST as u64, ..last_alone(MOST) });
+    visit(Case { place: 1, ..last_alone(MOST) });
+    visit(Case { place: MOST as u64, ..last_alone(MOST) });
 }
 
 /// Only the last record is eligible.
@@ -156,7 +157,7 @@ pub fn room(r: &mut Random) -> Room {
 }
 
 /// A place in a list of so many records, its ends first.
-pub fn from(r: &mut Random, records: u64) -> u64 {
+pub fn place(r: &mut Random, records: u64) -> u64 {
     match r.below(8) {
         0..=1 => 0,
         2 => records.saturating_sub(1),
@@ -182,6 +183,6 @@ pub fn random(seed: u64, number: u64) -> Case {
     let more = r.pick(&[0, 0, 1, VERDICT + 1, EXPLANATION_BYTES - 1]);
     list.extend(vec![ELIGIBLE; more]);
     case.listed = Listed::Bytes(list);
-    case.from = from(&mut r, records);
+    case.place = place(&mut r, records);
     case
 }

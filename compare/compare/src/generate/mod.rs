@@ -1,20 +1,27 @@
 //! The inputs: small spaces in full (`spaces`), then random ones, each a plausible setting (`base`) with a few fields moved to an
-//! edge of their range (`edges`) or to a limit that decides something (`aimed`). Explanations, catalogues and searches have spaces and
-//! random cases of their own (`lists`, `catalogues`, `searches`).
+//! edge of their range (`edges`) or to a limit that decides something (`aimed`). Explanations, catalogues, searches, forms, what is
+//! printed and the reading of a record have spaces and random cases of their own (`lists`, `catalogues`, `searches`, `forms`, `printed`,
+//! `places`).
 pub mod aimed;
 pub mod base;
 pub mod catalogues;
 pub mod court;
 pub mod edges;
 pub mod example;
+pub mod forms;
 pub mod large;
 pub mod lists;
+pub mod places;
+pub mod printed;
 pub mod random;
 pub mod searches;
 pub mod spaces;
 
-use crate::calls::{CALLS, EXPLAIN, MARGIN, NEXT, TRUST, VALIDATE, WIN};
-use crate::case::{Case, Listed, Room};
+use crate::calls::{
+    ASK, CALLS, CHECK, CHECKED, EXPLAIN, FIND, MARGIN, NEXT, PRESCRIBE, READ_REQUEST, READ_STORED, RECORD, TRUST,
+};
+use crate::calls::{UNIT, UTILITY, VALIDATE, WIN, WORDS, WRITE_REQUEST, WRITE_STORED};
+use crate::case::{Case, Formed, Listed, Room};
 use crate::second::bytes::{bank_bytes, policy_bytes, request_bytes, Policy, RECORD_BYTES};
 use oracle::kernel::{KernelInput, KernelModel, PolicySnapshot};
 use random::Random;
@@ -32,10 +39,12 @@ pub enum Asked {
 pub struct Space {
     pub name: &'static str,
     pub asked: Asked,
+    /// Whether a short run leaves it out.
+    pub long: bool,
     pub each: fn(Visit),
 }
 
-/// Random cases by seed and number, `share` for each hundred of the number wanted.
+/// Random cases by seed and number, `share` for each hundred decisions that are wanted.
 pub struct Draws {
     pub name: &'static str,
     pub asked: Asked,
@@ -43,20 +52,47 @@ pub struct Draws {
     pub case: fn(u64, u64) -> Case,
 }
 
-pub const SPACES: [Space; 6] = [
-    Space { name: "decisions", asked: Asked::Every, each: spaces::each },
-    Space { name: "lists", asked: Asked::These(&[EXPLAIN, NEXT]), each: lists::each },
-    Space { name: "catalogues", asked: Asked::These(&[VALIDATE, TRUST]), each: catalogues::each },
-    Space { name: "a falling catalogue", asked: Asked::These(&[VALIDATE]), each: catalogues::falling },
-    Space { name: "turned catalogues", asked: Asked::These(&[TRUST]), each: catalogues::turned },
-    Space { name: "searches", asked: Asked::These(&[WIN, MARGIN]), each: searches::each },
+/// The calls of one pass at most, which are asked most often.
+const DECISIONS: Asked = Asked::These(&[PRESCRIBE, CHECKED, UTILITY, FIND, CHECK, EXPLAIN, NEXT, RECORD]);
+const LISTS: Asked = Asked::These(&[EXPLAIN, NEXT]);
+const CATALOGUES: Asked = Asked::These(&[VALIDATE, TRUST]);
+const SEARCHES: Asked = Asked::These(&[WIN, MARGIN]);
+const FORMS: Asked = Asked::These(&[WRITE_STORED, READ_STORED, WRITE_REQUEST, READ_REQUEST, UNIT, ASK, WORDS]);
+const PRINTED: Asked = Asked::These(&[UNIT, ASK, WORDS]);
+
+const fn space(name: &'static str, asked: Asked, each: fn(Visit)) -> Space {
+    Space { name, asked, long: false, each }
+}
+
+const fn long(name: &'static str, asked: Asked, each: fn(Visit)) -> Space {
+    Space { name, asked, long: true, each }
+}
+
+pub const SPACES: [Space; 14] = [
+    space("decisions", Asked::Every, spaces::each),
+    space("banks of every size", Asked::Every, large::each),
+    space("lists", LISTS, lists::each),
+    space("catalogues", CATALOGUES, catalogues::each),
+    space("large catalogues", CATALOGUES, catalogues::largest),
+    space("searches", SEARCHES, searches::each),
+    space("places", Asked::These(&[RECORD]), places::each),
+    space("forms", FORMS, forms::each),
+    space("forms of every size", FORMS, forms::sizes),
+    space("printed", PRINTED, printed::each),
+    long("searches printed", PRINTED, searches::each),
+    long("a falling catalogue", Asked::These(&[VALIDATE]), catalogues::falling),
+    long("turned catalogues", Asked::These(&[TRUST]), catalogues::turned),
+    long("searches over large banks", SEARCHES, searches::largest),
 ];
 
-pub const DRAWS: [Draws; 4] = [
-    Draws { name: "random", asked: Asked::Every, share: 100, case: any_case },
-    Draws { name: "random lists", asked: Asked::These(&[EXPLAIN, NEXT]), share: 25, case: lists::random },
-    Draws { name: "random catalogues", asked: Asked::These(&[VALIDATE, TRUST]), share: 25, case: catalogues::random },
-    Draws { name: "random searches", asked: Asked::These(&[WIN, MARGIN]), share: 25, case: searches::random },
+pub const DRAWS: [Draws; 7] = [
+    Draws { name: "random decisions", asked: DECISIONS, share: 100, case: any_case },
+    Draws { name: "random", asked: Asked::Every, share: 20, case: of_every_call },
+    Draws { name: "random lists", asked: LISTS, share: 10, case: lists::random },
+    Draws { name: "random catalogues", asked: CATALOGUES, share: 10, case: catalogues::random },
+    Draws { name: "random searches", asked: SEARCHES, share: 15, case: searches::random },
+    Draws { name: "random forms", asked: FORMS, share: 20, case: forms::random },
+    Draws { name: "random printed", asked: PRINTED, share: 15, case: printed::random },
 ];
 
 /// Where every call is asked, those of many passes are asked up to the unit's 900 records; sets of their own have larger banks.
@@ -95,7 +131,8 @@ impl Setting {
             room: Room::Exact,
             list_room: Room::Exact,
             listed: Listed::Explained,
-            from: 0,
+            place: 0,
+            formed: Formed::Made(Vec::new()),
         }
     }
 
@@ -114,12 +151,17 @@ pub fn random_case(seed: u64, number: u64, size: fn(&mut Random) -> usize) -> Ca
     case.room = room(&mut r);
     damage(&mut r, &mut case);
     case.list_room = lists::room(&mut r);
-    case.from = lists::from(&mut r, setting.models.len() as u64);
+    case.place = lists::place(&mut r, setting.models.len() as u64);
     case
 }
 
 fn any_case(seed: u64, number: u64) -> Case {
     random_case(seed, number, any_size)
+}
+
+/// Other cases than those of the decisions, so that none is asked twice.
+fn of_every_call(seed: u64, number: u64) -> Case {
+    random_case(seed.wrapping_add(0xe4e27), number, any_size)
 }
 
 pub fn random_setting(r: &mut Random, records: usize) -> Setting {
@@ -145,12 +187,16 @@ fn id_to_ask_for(r: &mut Random, setting: &Setting) -> u32 {
     eligible.get(r.place(eligible.len().max(1))).copied().unwrap_or(any)
 }
 
-/// Mostly few records, since those are quick and every rule shows on them; now and then the unit's 900 and the largest banks.
+/// Mostly few records, since those are quick and every rule shows on them; now and then the unit's 900, as many as can be stored, the
+/// largest banks, and one more than each.
 pub fn any_size(r: &mut Random) -> usize {
     match r.below(40_000) {
         0 => 65_535,
         1 => 65_536,
-        2..=200 => 900,
+        2..=9 => 1_394,
+        10..=15 => 1_395,
+        16..=20 => 901,
+        21..=160 => 900,
         _ => r.pick(&[0, 1, 1, 2, 2, 2, 3, 3, 3, 3, 5, 5, 5, 5, 5, 22, 22, 22, 22, 22]),
     }
 }

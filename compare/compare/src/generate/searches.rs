@@ -152,16 +152,22 @@ fn longest(visit: Visit) {
     }
 }
 
-/// The sizes that are asked of every call; the largest with few searches, since each is some hundred passes.
+/// The sizes that are asked of every call, but for the largest.
 fn sizes(visit: Visit) {
     let mut r = Random::new(900);
     for records in [0, 1, 2, 22] {
         (0..100).for_each(|_| visit(contested(&mut r, records)));
     }
-    (0..25).for_each(|_| visit(contested(&mut r, 900)));
+    (0..20).for_each(|_| visit(contested(&mut r, 900)));
+    (0..5).for_each(|_| visit(contested(&mut r, 1_394)));
+    visit(over(vec![good(); MOST + 1]).case(1));
+}
+
+/// Few searches, since each is some hundred passes over 65,535 records.
+pub fn largest(visit: Visit) {
+    let mut r = Random::new(65_535);
     visit(contested(&mut r, MOST));
     visit(over(vec![good(); MOST]).case(MOST as u32));
-    visit(over(vec![good(); MOST + 1]).case(1));
 }
 
 /// A bank in which several are near each other, asked of one that isn't chosen.
@@ -172,7 +178,7 @@ fn contested(r: &mut Random, records: usize) -> Case {
 }
 
 /// The example with every number varied.
-fn contest(r: &mut Random, records: usize) -> Setting {
+pub fn contest(r: &mut Random, records: usize) -> Setting {
     let mut setting = example();
     setting.policy.latency_penalty_microunits_per_ms = r.pick(&[0, 1, 10, 10, 10, 30]);
     setting.policy.risk_penalty_multiplier_bps = r.pick(&[0, 5_000, 10_000, 10_000, 20_000]);
@@ -205,7 +211,7 @@ fn contender(r: &mut Random, at: usize) -> KernelModel {
 }
 
 /// Mostly a listed id that isn't the chosen one: the others need no search.
-fn id_to_ask_for(r: &mut Random, setting: &Setting) -> u32 {
+pub fn id_to_ask_for(r: &mut Random, setting: &Setting) -> u32 {
     let chosen = setting.snapshot().prescribe(setting.request).selected_model_id;
     let others: Vec<u32> = setting.models.iter().map(|model| model.model_id).filter(|id| *id != chosen).collect();
     match others.is_empty() || r.one_in(8) {
@@ -236,7 +242,7 @@ pub fn random(seed: u64, number: u64) -> Case {
 }
 
 /// One number of one record goes where a range ends or begins.
-fn twist(r: &mut Random, setting: &mut Setting, at: usize) {
+pub fn twist(r: &mut Random, setting: &mut Setting, at: usize) {
     let other = setting.models[r.place(setting.models.len())].model_id;
     let model = &mut setting.models[at];
     let ends = [0, 1, 9_999, 10_000, 10_000, 10_001, 65_535];

@@ -2,15 +2,16 @@
 use super::court::{court, good, over, rejected, REASONS};
 use super::edges::VALUES;
 use super::random::Random;
-use super::{large, Setting, Visit};
+use super::{Setting, Visit};
 use crate::case::{Case, Room};
 use oracle::kernel::{KernelModel, ALL_PROVIDERS};
 
-/// Every space, the largest banks last.
+/// Every space but those of large banks.
 pub fn each(visit: Visit) {
     gates(visit);
     stops(visit);
     masks(visit);
+    switches(visit);
     tied_counts(visit);
     different_counts(visit);
     ranks(visit);
@@ -19,7 +20,6 @@ pub fn each(visit: Visit) {
     terms(visit);
     request_limits(visit);
     refusals(visit);
-    large::each(visit);
 }
 
 /// One record: each of the eight gates failing or not, each way of being priced, each stop.
@@ -96,6 +96,13 @@ fn masks(visit: Visit) {
             setting.request.required_region_mask = required;
             visit(setting.case(1));
         }
+    }
+}
+
+/// Every number that a switch can have: only 0 is off.
+fn switches(visit: Visit) {
+    for enabled in 0..=u8::MAX {
+        visit(over(vec![KernelModel { enabled, ..good() }]).case(1));
     }
 }
 

@@ -15,7 +15,7 @@ pub fn entries(list: &mut Vec<Entry>) {
         limits(&mut both);
         orders(&mut both);
         lengths(list, call);
-        random(list, call, 14, catalogues::random);
+        random(list, call, 10, catalogues::random);
     }
 }
 

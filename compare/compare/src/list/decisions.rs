@@ -1,5 +1,5 @@
 //! Kinds 1 to 5: decisions, utilities, places, and the request's limits.
-use super::{add, holds, Entry, SEED};
+use super::{add, whole, Entry, SEED};
 use crate::calls::{CALLS, CHECK, CHECKED, FIND, PRESCRIBE, UTILITY};
 use crate::case::{Case, Room};
 use crate::generate::court::{good, rejected, REASONS};
@@ -12,7 +12,7 @@ pub fn entries(list: &mut Vec<Entry>) {
     worked(list);
     lengths(list);
     small_spaces(list);
-    for (call, number) in [(PRESCRIBE, 96), (CHECKED, 76), (UTILITY, 96), (FIND, 52), (CHECK, 8)] {
+    for (call, number) in [(PRESCRIBE, 36), (CHECKED, 32), (UTILITY, 48), (FIND, 20), (CHECK, 8)] {
         random(list, call, number);
     }
 }
@@ -28,15 +28,22 @@ fn worked(list: &mut Vec<Entry>) {
     }
 }
 
-/// A bank whose length is wrong by a byte, also where the request is wrong too: the bank comes first.
+/// A bank, a policy, a request and a buffer whose length is wrong by a byte, also where the request is wrong too: they come first.
 fn lengths(list: &mut Vec<Entry>) {
     for setting in [example(), with_request(|q| q.risk_bps = 10_001)] {
         let case = setting.case(2);
         for call in [PRESCRIBE, CHECKED, UTILITY, FIND] {
             add(list, call, Case { bank: case.bank[1..].to_vec(), ..case.clone() });
             add(list, call, Case { bank: [&case.bank[..], &[0]].concat(), ..case.clone() });
+            add(list, call, Case { room: Room::ShortBy(1), ..case.clone() });
         }
     }
+    let case = example().case(2);
+    for call in [PRESCRIBE, CHECKED, UTILITY, CHECK] {
+        add(list, call, Case { request: case.request[1..].to_vec(), room: Room::LongerBy(3), ..case.clone() });
+    }
+    add(list, PRESCRIBE, Case { policy: case.policy[1..].to_vec(), ..case.clone() });
+    add(list, PRESCRIBE, Case { room: Room::LongerBy(3), ..case });
 }
 
 fn small_spaces(list: &mut Vec<Entry>) {
@@ -99,13 +106,13 @@ fn limits(list: &mut Vec<Entry>) {
     });
 }
 
-/// The first so many random cases that an entry can hold: policy and request have their lengths there. Of those without a utility
+/// The first so many random cases whose policy and request have their lengths. Of those without a utility
 /// to tell every third is kept, since most ids have none.
 fn random(list: &mut Vec<Entry>, call: usize, number: usize) {
     let cases = (0..).map(|at| (at, random_case(SEED + call as u64, at, small_size)));
     let kept = cases
-        .filter(|(_, case)| holds(case))
+        .filter(|(_, case)| whole(case))
         .map(|(at, case)| (at, Case { room: Room::Exact, ..case }))
-        .filter(|(at, case)| at % 3 == 0 || CALLS[call].owed(case) != Refusal::of(NO_UTILITY).into());
+        .filter(|(at, case)| at % 3 == 0 || CALLS[call].owed_on(case) != Refusal::of(NO_UTILITY).into());
     kept.take(number).for_each(|(_, case)| add(list, call, case));
 }

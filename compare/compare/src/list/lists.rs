@@ -10,7 +10,7 @@ use crate::generate::spaces::gate_case;
 pub fn entries(list: &mut Vec<Entry>) {
     explanations(list);
     rooms(list);
-    random(list, EXPLAIN, 20, lists::random);
+    random(list, EXPLAIN, 12, lists::random);
     next(list);
     random(list, NEXT, 12, lists::random);
 }
@@ -43,16 +43,16 @@ fn rooms(list: &mut Vec<Entry>) {
 
 /// The example's explanation from each place on; verdicts beside an eligible one's; a list cut short; places far off.
 fn next(list: &mut Vec<Entry>) {
-    for from in 0..=3 {
-        add(list, NEXT, Case { from, ..example().case(1) });
-        add(list, NEXT, Case { from, ..with_models(|models| models[0].enabled = 0).case(1) });
-        add(list, NEXT, of_bytes(with_verdicts(&[3, 4, 5, 4], 0), from));
+    for place in 0..=3 {
+        add(list, NEXT, Case { place, ..example().case(1) });
+        add(list, NEXT, Case { place, ..with_models(|models| models[0].enabled = 0).case(1) });
+        add(list, NEXT, of_bytes(with_verdicts(&[3, 4, 5, 4], 0), place));
     }
     add(list, NEXT, of_bytes(Vec::new(), 0));
     add(list, NEXT, of_bytes(with_verdicts(&[0, 1, 2, 3, 5, 255], 4), 0));
     add(list, NEXT, of_bytes(vec![4; 71], 0));
     add(list, NEXT, of_bytes(vec![4; 72 + 71], 1));
-    for from in FAR.into_iter().step_by(2) {
-        add(list, NEXT, of_bytes(with_verdicts(&[4, 4], 0), from));
+    for place in FAR.into_iter().step_by(2) {
+        add(list, NEXT, of_bytes(with_verdicts(&[4, 4], 0), place));
     }
 }

@@ -3,30 +3,27 @@
 //!
 //! One entry after the other to the end of the file, numbers little-endian:
 //!
-//! | kind | call | after the kind's byte |
-//! |---|---|---|
-//! | 1 | `prescribe` | policy 30, request 70, bank length u32, bank, word u64, answer 83 |
-//! | 2 | `prescribe_checked` | the same |
-//! | 3 | `utility_for_model` | policy 30, request 70, id u32, bank length u32, bank, word u64, answer 8 |
-//! | 4 | `find` | id u32, bank length u32, bank, word u64, answer 2 |
-//! | 5 | `check_request` | request 70, word u64 |
-//! | 6 | `explain` | policy 30, request 70, bank length u32, bank, list length u32, word u64, decision 65, list at exit |
-//! | 7 | `next_eligible` | from u64, list length u32, list, word u64, answer 8 |
-//! | 8 | `validate` | policy 30, bank length u32, bank, word u64 |
-//! | 9 | `trust` | policy 30, bank length u32, bank, word u64, bank at exit |
-//! | 10 | `what_would_win` | policy 30, request 70, id u32, bank length u32, bank, word u64, answer 183 |
-//! | 11 | `decision_margin` | policy 30, request 70, bank length u32, bank, word u64, answer 183 |
+//! | Bytes | What |
+//! |---|---|
+//! | 1 | who says what is owed: 1 the Rust, 2 the second reading, 3 both: the Rust decides, the second reading prints it |
+//! | 1 | the call: 1 to 19, in the order of `CALLS` |
+//! | 8 | the id or the place that it takes, else 0 |
+//! | 2 each | five lengths: of the policy, the request, the bytes, the space and the buffer; 0 for what the call doesn't take |
+//! | as they say | the policy; the request; the bytes, which are the bank, the list or the form that is read |
+//! | 8 | the word that is owed: the refusal's, or 0 |
+//! | as they say | the space after the call: the list or the bank that is filled, or the bank that is ordered; the buffer after the call |
 //!
-//! The word is the refusal's, or 0; the answer is all zero where refused. The buffer that was lent just fits; the list that `explain`
-//! fills was lent as zeros.
+//! Every byte of the space and of the buffer is `FILL` before the call, but for a bank that is ordered: it is a copy of the bytes.
 mod catalogues;
 mod decisions;
+mod forms;
 mod lists;
+mod printed;
 mod searches;
 
 use crate::calls::next_eligible::list_to_read;
-use crate::calls::{Answer, Handed, CALLS, TRUST};
-use crate::case::{Case, Room};
+use crate::calls::{Answer, By, Handed, CALLS, TRUST};
+use crate::case::{Ask, Case, Room};
 use crate::second::bytes::{POLICY_BYTES, RECORD_BYTES, REQUEST_BYTES};
 
 /// The seed of the list's random cases. Another one makes another list.
@@ -44,6 +41,8 @@ pub fn entries() -> Vec<Entry> {
     lists::entries(&mut list);
     catalogues::entries(&mut list);
     searches::entries(&mut list);
+    forms::entries(&mut list);
+    printed::entries(&mut list);
     list
 }
 
@@ -51,80 +50,105 @@ fn add(list: &mut Vec<Entry>, call: usize, case: Case) {
     list.push(Entry { call, case });
 }
 
-/// Whether an entry can hold the case: policy and request have their lengths there.
-fn holds(case: &Case) -> bool {
+/// The bytes of the largest bank of a random entry, and of the largest space and buffer that the program which replays the list has.
+const MOST_BANK: usize = 8 * RECORD_BYTES + 1;
+pub const MOST_ROOM: usize = 1_024;
+
+/// What fills a space and a buffer before the call.
+const FILL: u8 = 165;
+
+/// Whether the policy and the request have their lengths; cases that have not are refused alike, and are few in the list.
+fn whole(case: &Case) -> bool {
     case.policy.len() == POLICY_BYTES && case.request.len() == REQUEST_BYTES
 }
 
-/// The bytes of the largest bank and the largest list that the program which replays the list has room for.
-const MOST_BANK: usize = 8 * RECORD_BYTES + 1;
-const MOST_LIST: usize = 1_024;
+fn fits(call: usize, case: &Case) -> bool {
+    let ask = CALLS[call].ask(case);
+    case.bank.len() <= MOST_BANK && ask.room <= MOST_ROOM && ask.list_room <= MOST_ROOM
+}
 
 /// The first so many random cases that fit an entry.
 fn random(list: &mut Vec<Entry>, call: usize, number: usize, draw: fn(u64, u64) -> Case) {
-    let fits = |case: &Case| holds(case) && case.bank.len() <= MOST_BANK && case.list_room() <= MOST_LIST;
-    let cases = (0..).map(|at| draw(SEED + call as u64, at)).filter(fits);
+    let cases = (0..).map(|at| draw(SEED + call as u64, at)).filter(|case| whole(case) && fits(call, case));
     cases.take(number).for_each(|case| add(list, call, Case { room: Room::Exact, ..case }));
 }
 
-/// A length, then the bytes.
-fn put_bytes(out: &mut Vec<u8>, bytes: &[u8]) {
-    out.extend((bytes.len() as u32).to_le_bytes());
-    out.extend(bytes);
-}
-
-/// The order in which an entry has what its call takes.
-const QUESTION: [Handed; 7] =
-    [Handed::Policy, Handed::Request, Handed::Id, Handed::From, Handed::Bank, Handed::List, Handed::Listed];
-
 impl Entry {
     pub fn owed(&self) -> Answer {
-        CALLS[self.call].owed(&self.case)
+        CALLS[self.call].owed_on(&self.case)
     }
 
     /// Adds the entry to the file's bytes.
     pub fn write(&self, out: &mut Vec<u8>) {
-        let (case, call) = (&self.case, &CALLS[self.call]);
-        out.push(self.call as u8 + 1);
-        for handed in QUESTION.into_iter().filter(|handed| call.takes.contains(handed)) {
-            self.put(handed, out);
+        let ask = CALLS[self.call].ask(&self.case);
+        let owed = CALLS[self.call].owed(&ask);
+        let bytes = self.bytes(&ask);
+        let mut space = if self.call == TRUST { bytes.clone() } else { self.lent(Handed::List, ask.list_room) };
+        let mut buffer = self.lent(Handed::Out, ask.room);
+        put_over(&mut space, if self.call == TRUST { &owed.bank } else { &owed.list });
+        put_over(&mut buffer, &owed.out);
+        let (policy, request) = (self.part(Handed::Policy, ask.policy), self.part(Handed::Request, ask.request));
+        out.extend([who(owed.by), self.call as u8 + 1]);
+        out.extend(self.number().to_le_bytes());
+        for part in [policy, request, &bytes, &space, &buffer] {
+            out.extend(u16::try_from(part.len()).expect("two bytes say its length").to_le_bytes());
         }
-        let owed = self.owed();
-        out.extend(owed.word().to_le_bytes());
-        put_over(out, vec![0; (call.need)(case)], &owed.out);
-        if call.takes.contains(&Handed::List) {
-            put_over(out, vec![0; case.list_room()], &owed.list);
-        }
-        if self.call == TRUST {
-            put_over(out, case.bank.clone(), &owed.bank);
+        for part in [policy, request, &bytes, &owed.word().to_le_bytes(), &space, &buffer] {
+            out.extend(part);
         }
     }
 
-    fn put(&self, handed: Handed, out: &mut Vec<u8>) {
-        let case = &self.case;
-        match handed {
-            Handed::Policy => out.extend(&case.policy),
-            Handed::Request => out.extend(&case.request),
-            Handed::Id => out.extend(case.id.to_le_bytes()),
-            Handed::From => out.extend(case.from.to_le_bytes()),
-            Handed::Bank => put_bytes(out, &case.bank),
-            Handed::List => out.extend((case.list_room() as u32).to_le_bytes()),
-            Handed::Listed => put_bytes(out, &list_to_read(&case.ask(0))),
-            Handed::Out => {}
+    fn takes(&self, handed: Handed) -> bool {
+        CALLS[self.call].takes.contains(&handed)
+    }
+
+    fn part<'a>(&self, handed: Handed, part: &'a [u8]) -> &'a [u8] {
+        if self.takes(handed) {
+            part
+        } else {
+            &[]
+        }
+    }
+
+    fn lent(&self, handed: Handed, room: usize) -> Vec<u8> {
+        vec![FILL; if self.takes(handed) { room } else { 0 }]
+    }
+
+    fn number(&self) -> u64 {
+        match (self.takes(Handed::Id), self.takes(Handed::Place)) {
+            (true, _) => u64::from(self.case.id),
+            (_, true) => self.case.place,
+            _ => 0,
+        }
+    }
+
+    /// What is read beside the policy and the request.
+    fn bytes(&self, ask: &Ask) -> Vec<u8> {
+        match self {
+            _ if self.takes(Handed::Form) => ask.form.clone(),
+            _ if self.takes(Handed::Listed) => list_to_read(ask),
+            _ => self.part(Handed::Bank, ask.bank).to_vec(),
         }
     }
 }
 
-/// A buffer with these bytes written to its start.
-fn put_over(out: &mut Vec<u8>, mut buffer: Vec<u8>, bytes: &[u8]) {
-    buffer[..bytes.len()].copy_from_slice(bytes);
-    out.extend(buffer);
+fn who(by: By) -> u8 {
+    match by {
+        By::Rust => 1,
+        By::Second => 2,
+        By::Printed => 3,
+    }
+}
+
+/// These bytes written to the start.
+fn put_over(lent: &mut [u8], bytes: &[u8]) {
+    lent[..bytes.len()].copy_from_slice(bytes);
 }
 
 #[cfg(test)]
 mod tests {
     use super::*;
-    use crate::calls::{MARGIN, PRESCRIBE, WIN};
+    use crate::calls::{ASK, MARGIN, PRESCRIBE, UNIT, WIN, WORDS};
     use crate::generate::example::{example, rows};
 
     /// Numbers of these widths, lowest byte first.
@@ -140,7 +164,7 @@ mod tests {
 
     #[test]
     fn the_example_is_decided_as_document_01_prints_it() {
-        let owed = CALLS[PRESCRIBE].owed(&example().case(1));
+        let owed = CALLS[PRESCRIBE].owed_on(&example().case(1));
         assert_eq!(owed, Answer::of([printed(), vec![0; 18]].concat()));
     }
 
@@ -156,15 +180,34 @@ mod tests {
     #[test]
     fn the_examples_boundaries_are_document_01s() {
         let case = example().case(1);
-        assert_eq!(CALLS[WIN].owed(&case), bounded(1, 26, &[[3, 1_000_000, 443_333, 1, 798]]));
+        assert_eq!(CALLS[WIN].owed_on(&case), bounded(1, 26, &[[3, 1_000_000, 443_333, 1, 798]]));
         let levers =
             [[1, 8_000, 7_000, 0, 0], [2, 50, 150, 0, 0], [3, 1_000_000, 4_330_000, 1, 1_299], [4, 8_000, 1_000, 0, 0]];
-        assert_eq!(CALLS[MARGIN].owed(&case), bounded(2, 95, &levers));
+        assert_eq!(CALLS[MARGIN].owed_on(&case), bounded(2, 95, &levers));
+    }
+
+    /// What a call prints for the example, asked about a model.
+    fn text_of(call: usize, id: u32) -> String {
+        String::from_utf8(CALLS[call].owed_on(&example().case(id)).out[8..].to_vec()).expect("text")
+    }
+
+    #[test]
+    fn the_example_is_printed_as_document_01_has_it() {
+        let lines = "decision 42 2 2 2 1 300 6200 1 5200 2 2 7 3\nrejected 0 0 0 0 0 0 0 0 0\nlever 1 8000 7000 -\n\
+                     lever 2 50 150 -\nlever 3 1000000 4330000 1299\nlever 4 8000 1000 -\n";
+        assert_eq!(text_of(UNIT, 1), lines);
+        let lines = "decision 42 2 2 2 1 300 6200 1 5200 2 2 7 3\nlever 3 1000000 443333 798\npasses 26\n";
+        assert_eq!(text_of(ASK, 1), lines);
+        let words = "Price: 100 percent today; it must fall by at least 55.6667 percent, to 44.3333 percent; the request then costs \
+                     798 microunits.\n";
+        assert_eq!(text_of(WORDS, 1), words);
+        assert_eq!(text_of(WORDS, 2), "Model 2 is chosen already.\n");
+        assert_eq!(text_of(WORDS, 3), "refused 5\n");
     }
 
     #[test]
     fn the_worked_rows_have_their_reasons() {
-        let decisions = rows().map(|setting| CALLS[PRESCRIBE].owed(&setting.case(1)).out);
+        let decisions = rows().map(|setting| CALLS[PRESCRIBE].owed_on(&setting.case(1)).out);
         assert_eq!(
             decisions.each_ref().map(|bytes| u16::from_le_bytes([bytes[9], bytes[10]])),
             [2, 100, 110, 101, 109, 1, 102, 102, 106, 109]
@@ -172,18 +215,36 @@ mod tests {
         assert_eq!(decisions[5][17], 2, "one token each way at price 1");
     }
 
+    fn written() -> Vec<u8> {
+        let mut bytes = Vec::new();
+        entries().iter().for_each(|entry| entry.write(&mut bytes));
+        bytes
+    }
+
     #[test]
     fn the_list_is_the_same_each_time_and_small() {
-        let written = || {
-            let mut bytes = Vec::new();
-            entries().iter().for_each(|entry| entry.write(&mut bytes));
-            bytes
-        };
         assert_eq!(written(), written());
-        assert!(written().len() < 400_000);
+        assert!(written().len() < 360_000);
         for Entry { call, case } in entries() {
-            assert!(case.bank.len() <= MOST_BANK);
-            assert!(!CALLS[call].takes.contains(&Handed::List) || case.list_room() <= MOST_LIST);
+            let ask = CALLS[call].ask(&case);
+            assert!(ask.list_room <= MOST_ROOM || !CALLS[call].takes.contains(&Handed::List));
+            assert!(ask.room <= MOST_ROOM);
         }
+    }
+
+    /// The list's own bytes, read as the table above says.
+    #[test]
+    fn the_list_has_every_call_and_every_teller() {
+        let bytes = written();
+        let (mut at, mut calls, mut tellers) = (0, [0; 20], [0; 4]);
+        while at < bytes.len() {
+            tellers[usize::from(bytes[at])] += 1;
+            calls[usize::from(bytes[at + 1])] += 1;
+            let lengths = bytes[at + 10..at + 20].chunks(2).map(|two| usize::from(two[0]) + 256 * usize::from(two[1]));
+            at += 28 + lengths.sum::<usize>();
+        }
+        assert_eq!(at, bytes.len());
+        assert!(tellers[0] == 0 && tellers[1..].iter().all(|times| *times > 80), "{tellers:?}");
+        assert!(calls[0] == 0 && calls[1..].iter().all(|times| *times > 5), "{calls:?}");
     }
 }

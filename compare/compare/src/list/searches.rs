@@ -18,8 +18,8 @@ pub fn entries(list: &mut Vec<Entry>) {
         lengths(list, call);
     }
     reasons(list);
-    random(list, WIN, 26, searches::random);
-    random(list, MARGIN, 24, searches::random);
+    random(list, WIN, 20, searches::random);
+    random(list, MARGIN, 18, searches::random);
 }
 
 /// The example's ids and others: 1 is row (B), 2 is chosen already. An id that isn't listed is 5 even where the request is stopped.

@@ -9,6 +9,7 @@ pub const DECISION_BYTES: usize = 65;
 pub const TRACED_BYTES: usize = 83;
 pub const UTILITY_BYTES: usize = 8;
 pub const PLACE_BYTES: usize = 2;
+pub const OFFSET_BYTES: usize = 8;
 /// The place of an id that is nowhere.
 pub const NOWHERE: u16 = u16::MAX;
 
@@ -166,6 +167,11 @@ pub fn models_of(bank: &[u8]) -> Vec<KernelModel> {
 pub fn first_listed(bank: &[u8], id: u32) -> u16 {
     let place = bank.chunks_exact(RECORD_BYTES).position(|record| record[..4] == id.to_le_bytes());
     place.map_or(NOWHERE, |at| u16::try_from(at).expect("at most 65,535 records"))
+}
+
+/// Where the record at a place begins.
+pub fn record_offset(place: u64) -> u64 {
+    place * RECORD_BYTES as u64
 }
 
 pub fn bank_bytes(models: &[KernelModel]) -> Vec<u8> {

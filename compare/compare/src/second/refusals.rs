@@ -9,6 +9,7 @@ pub const NO_ROOM: u8 = 4;
 pub const NOT_LISTED: u8 = 5;
 pub const REJECTION: u8 = 6;
 pub const NO_UTILITY: u8 = 7;
+pub const BEYOND: u8 = 8;
 pub const FIELD_LENGTH: u8 = 22;
 
 pub const MOST_RECORDS: usize = 65_535;
@@ -71,6 +72,11 @@ pub fn bank(bank: &[u8]) -> Passed {
 /// 4.
 pub fn room(have: usize, need: usize) -> Passed {
     unless(have < need, NO_ROOM)
+}
+
+/// 8: the bank has no record at the place.
+pub fn place(bank: &[u8], place: u64) -> Passed {
+    unless(place >= (bank.len() / RECORD_BYTES) as u64, BEYOND)
 }
 
 /// 3: which field and which value is the Rust's to say, in its order; the fields' numbers are document 01's. The place is 0

@@ -19,9 +19,10 @@ slice-aggregate-deliver c =
 returns : tie.Need-returns
 returns c =
     let d = c .before .before .deliver .ensures in
-    let f = written-front (c .before .before .before .before .before .before .put-ask .ensures) in
+    let w = c .before .before .before .before .before .before .put-ask .ensures in
+    let f = written-front w in
     let out = now (c .before .before .before .before .before .before .before .before .before .before .args .out) in
-    (d .0 ∙ ap (λ (t : List ℕ). printOf t (length out)) f, d .1 ∙ ap (λ (t : List ℕ). printBuffer t out) f)
+    (d .0 ∙ ap (λ (t : List ℕ). printOf t (length out)) f, d .1 ∙ ap (λ (t : List ℕ). printBuffer t out) f, omega (arith, w .room))
 
 pub ask-text-spec : {M : Type 1} → statement M
 ask-text-spec =

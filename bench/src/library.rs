@@ -1,0 +1,143 @@
+//! The exported functions of the static library, as include/volankizo.h declares them.
+use std::hint::black_box;
+
+type Bytes = *const u8;
+type Lent = *mut u8;
+
+extern "C" {
+    fn volankizo_prescribe(p: Bytes, pn: usize, q: Bytes, qn: usize, b: Bytes, bn: usize, o: Lent, on: usize) -> u64;
+    fn volankizo_prescribe_checked(
+        p: Bytes,
+        pn: usize,
+        q: Bytes,
+        qn: usize,
+        b: Bytes,
+        bn: usize,
+        o: Lent,
+        on: usize,
+    ) -> u64;
+    fn volankizo_utility_for_model(
+        p: Bytes,
+        pn: usize,
+        q: Bytes,
+        qn: usize,
+        b: Bytes,
+        bn: usize,
+        id: u32,
+        o: Lent,
+        on: usize,
+    ) -> u64;
+    fn volankizo_find(b: Bytes, bn: usize, id: u32, o: Lent, on: usize) -> u64;
+    fn volankizo_check_request(q: Bytes, qn: usize) -> u64;
+    fn volankizo_next_eligible(l: Bytes, ln: usize, from: u64, o: Lent, on: usize) -> u64;
+    fn volankizo_explain(
+        p: Bytes,
+        pn: usize,
+        q: Bytes,
+        qn: usize,
+        b: Bytes,
+        bn: usize,
+        l: Lent,
+        ln: usize,
+        o: Lent,
+        on: usize,
+    ) -> u64;
+    fn volankizo_validate(p: Bytes, pn: usize, b: Bytes, bn: usize) -> u64;
+    fn volankizo_trust(p: Bytes, pn: usize, b: Lent, bn: usize) -> u64;
+    fn volankizo_what_would_win(
+        p: Bytes,
+        pn: usize,
+        q: Bytes,
+        qn: usize,
+        b: Bytes,
+        bn: usize,
+        id: u32,
+        o: Lent,
+        on: usize,
+    ) -> u64;
+    fn volankizo_decision_margin(
+        p: Bytes,
+        pn: usize,
+        q: Bytes,
+        qn: usize,
+        b: Bytes,
+        bn: usize,
+        o: Lent,
+        on: usize,
+    ) -> u64;
+    fn volankizo_record_at(b: Bytes, bn: usize, place: u64, o: Lent, on: usize) -> u64;
+    fn volankizo_write_stored(p: Bytes, pn: usize, b: Bytes, bn: usize, o: Lent, on: usize) -> u64;
+    fn volankizo_read_stored(f: Bytes, fl: usize, b: Lent, bn: usize, o: Lent, on: usize) -> u64;
+    fn volankizo_write_request(q: Bytes, qn: usize, o: Lent, on: usize) -> u64;
+    fn volankizo_read_request(f: Bytes, fl: usize, o: Lent, on: usize) -> u64;
+    fn volankizo_unit_text(i: Bytes, il: usize, o: Lent, on: usize) -> u64;
+    fn volankizo_ask_text(i: Bytes, il: usize, id: u32, o: Lent, on: usize) -> u64;
+    fn volankizo_ask_words(i: Bytes, il: usize, id: u32, o: Lent, on: usize) -> u64;
+}
+
+/// What is lent to every call but `validate` and `trust`.
+#[derive(Clone, Copy)]
+pub struct Question<'a> {
+    pub policy: &'a [u8],
+    pub request: &'a [u8],
+    pub bank: &'a [u8],
+}
+
+// Each slice is alive for the whole call, what is written overlaps nothing else, and no address is kept: all that the calls ask.
+
+pub fn prescribe(q: Question, out: &mut [u8]) -> u64 {
+    let (p, r, b, o) = (q.policy, q.request, q.bank, black_box(out));
+    unsafe {
+        volankizo_prescribe(p.as_ptr(), p.len(), r.as_ptr(), r.len(), b.as_ptr(), b.len(), o.as_mut_ptr(), o.len())
+    }
+}
+
+pub fn explain(q: Question, list: &mut [u8], out: &mut [u8]) -> u64 {
+    let (p, r, b, l, o) = (q.policy, q.request, q.bank, black_box(list), black_box(out));
+    let (l, ln, o, on) = (l.as_mut_ptr(), l.len(), o.as_mut_ptr(), o.len());
+    unsafe { volankizo_explain(p.as_ptr(), p.len(), r.as_ptr(), r.len(), b.as_ptr(), b.len(), l, ln, o, on) }
+}
+
+pub fn validate(policy: &[u8], bank: &[u8]) -> u64 {
+    unsafe { volankizo_validate(policy.as_ptr(), policy.len(), bank.as_ptr(), bank.len()) }
+}
+
+pub fn trust(policy: &[u8], bank: &mut [u8]) -> u64 {
+    let bank = black_box(bank);
+    unsafe { volankizo_trust(policy.as_ptr(), policy.len(), bank.as_mut_ptr(), bank.len()) }
+}
+
+pub fn what_would_win(q: Question, id: u32, out: &mut [u8]) -> u64 {
+    let (p, r, b, o) = (q.policy, q.request, q.bank, black_box(out));
+    let (o, on) = (o.as_mut_ptr(), o.len());
+    unsafe { volankizo_what_would_win(p.as_ptr(), p.len(), r.as_ptr(), r.len(), b.as_ptr(), b.len(), id, o, on) }
+}
+
+pub fn decision_margin(q: Question, out: &mut [u8]) -> u64 {
+    let (p, r, b, o) = (q.policy, q.request, q.bank, black_box(out));
+    let (o, on) = (o.as_mut_ptr(), o.len());
+    unsafe { volankizo_decision_margin(p.as_ptr(), p.len(), r.as_ptr(), r.len(), b.as_ptr(), b.len(), o, on) }
+}
+
+/// The address of each function, in the order of the comparison's calls.
+pub const ADDRESSES: [fn() -> usize; 19] = [
+    || volankizo_prescribe as *const () as usize,
+    || volankizo_prescribe_checked as *const () as usize,
+    || volankizo_utility_for_model as *const () as usize,
+    || volankizo_find as *const () as usize,
+    || volankizo_check_request as *const () as usize,
+    || volankizo_explain as *const () as usize,
+    || volankizo_next_eligible as *const () as usize,
+    || volankizo_validate as *const () as usize,
+    || volankizo_trust as *const () as usize,
+    || volankizo_what_would_win as *const () as usize,
+    || volankizo_decision_margin as *const () as usize,
+    || volankizo_record_at as *const () as usize,
+    || volankizo_write_stored as *const () as usize,
+    || volankizo_read_stored as *const () as usize,
+    || volankizo_write_request as *const () as usize,
+    || volankizo_read_request as *const () as usize,
+    || volankizo_unit_text as *const () as usize,
+    || volankizo_ask_text as *const () as usize,
+    || volankizo_ask_words as *const () as usize,
+];

@@ -1,0 +1,30 @@
+//! `read_request`: the request of a request form.
+use super::{Answer, Call, Handed, PLAIN};
+use crate::case::Ask;
+use crate::second::bytes::REQUEST_BYTES;
+use crate::second::forms::{request_in, REQUEST_FORM};
+use crate::second::refusals::{self, Passed};
+
+pub const CALL: Call = Call {
+    name: "read_request",
+    takes: &[Handed::Form, Handed::Out],
+    tags: REQUEST_FORM,
+    need,
+    second,
+    answer: reading,
+    ..PLAIN
+};
+
+fn need(_: &Ask) -> usize {
+    REQUEST_BYTES
+}
+
+/// 20, 21, 22, then 4.
+fn second(ask: &Ask) -> Passed {
+    request_in(&ask.form)?;
+    refusals::room(ask.room, REQUEST_BYTES)
+}
+
+fn reading(ask: &Ask) -> Answer {
+    Answer::of(request_in(&ask.form).expect("it passed").to_vec()).second()
+}

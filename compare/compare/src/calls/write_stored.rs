@@ -1,0 +1,30 @@
+//! `write_stored`: the stored form of a policy with its bank.
+use super::{Answer, Call, Handed, PLAIN};
+use crate::case::Ask;
+use crate::second::forms::{storable, stored_form, STORED_BYTES};
+use crate::second::refusals::{self, Passed};
+
+pub const CALL: Call = Call {
+    name: "write_stored",
+    takes: &[Handed::Policy, Handed::Bank, Handed::Out],
+    need,
+    second,
+    answer: reading,
+    ..PLAIN
+};
+
+fn need(ask: &Ask) -> usize {
+    STORED_BYTES + ask.bank.len()
+}
+
+/// 22, 1, 2, 18, 4.
+fn second(ask: &Ask) -> Passed {
+    refusals::policy_length(ask.policy)?;
+    refusals::bank(ask.bank)?;
+    storable(ask.bank)?;
+    refusals::room(ask.room, need(ask))
+}
+
+fn reading(ask: &Ask) -> Answer {
+    Answer::of(stored_form(ask.policy, ask.bank)).second()
+}

@@ -1,0 +1,110 @@
+//! The forms that are made of a case, and what can be wrong with one.
+use crate::case::Case;
+use crate::second::forms::{MODELS, POLICY, REQUEST};
+
+/// One thing wrong with a form. A field is meant by its place; where there is none, nothing happens.
+#[derive(Clone, Copy, Debug, PartialEq, Eq)]
+pub enum Damage {
+    /// The field has this tag.
+    Tag(usize, u8),
+    /// The field's length says so many bytes more or fewer than its body has.
+    Length(usize, i32),
+    /// The field's length is this.
+    Says(usize, u16),
+    /// The field's body has so many bytes more or fewer, and its length says so.
+    Body(usize, i32),
+    Without(usize),
+    Twice(usize),
+    Swapped(usize, usize),
+    /// A field of its own after the last, empty.
+    Added(u8),
+    /// The first bytes alone.
+    Keep(usize),
+    /// So many bytes less at the end.
+    ShortBy(usize),
+    /// The byte at a place is another.
+    Byte(usize, u8),
+    /// So many such bytes after the end.
+    Tail(usize, u8),
+}
+
+#[derive(Clone)]
+struct Field {
+    tag: u8,
+    length: u16,
+    body: Vec<u8>,
+}
+
+/// The case's parts as a form with these tags, then damaged in this order, but first what is wrong with fields.
+pub fn form_bytes(case: &Case, tags: &[u8], damages: &[Damage]) -> Vec<u8> {
+    let mut fields: Vec<Field> = tags.iter().map(|tag| field(case, *tag)).collect();
+    damages.iter().for_each(|damage| damage.fields(&mut fields));
+    let mut bytes = Vec::new();
+    for Field { tag, length, body } in fields {
+        bytes.push(tag);
+        bytes.extend(length.to_le_bytes());
+        bytes.extend(body);
+    }
+    damages.iter().for_each(|damage| damage.bytes(&mut bytes));
+    bytes
+}
+
+/// A body that is too long for its length is there all the same.
+fn field(case: &Case, tag: u8) -> Field {
+    let body = match tag {
+        POLICY => &case.policy,
+        MODELS => &case.bank,
+        REQUEST => &case.request,
+        _ => unreachable!("no form has such a tag"),
+    };
+    Field { tag, length: body.len() as u16, body: body.clone() }
+}
+
+impl Damage {
+    fn fields(self, fields: &mut Vec<Field>) {
+        let (Damage::Tag(at, _)
+        | Damage::Length(at, _)
+        | Damage::Says(at, _)
+        | Damage::Body(at, _)
+        | Damage::Without(at)
+        | Damage::Twice(at)
+        | Damage::Swapped(at, _)) = self
+        else {
+            if let Damage::Added(tag) = self {
+                fields.push(Field { tag, length: 0, body: Vec::new() });
+            }
+            return;
+        };
+        let Some(field) = fields.get_mut(at) else {
+            return;
+        };
+        match self {
+            Damage::Tag(_, tag) => field.tag = tag,
+            Damage::Length(_, more) => field.length = (i32::from(field.length) + more) as u16,
+            Damage::Says(_, length) => field.length = length,
+            Damage::Body(_, more) => field.stretch(more),
+            Damage::Without(_) => drop(fields.remove(at)),
+            Damage::Twice(_) => fields.insert(at, fields[at].clone()),
+            Damage::Swapped(_, other) if other < fields.len() => fields.swap(at, other),
+            _ => {}
+        }
+    }
+
+    fn bytes(self, bytes: &mut Vec<u8>) {
+        match self {
+            Damage::Keep(first) => bytes.truncate(first),
+            Damage::ShortBy(less) => bytes.truncate(bytes.len().saturating_sub(less)),
+            Damage::Byte(at, to) if at < bytes.len() => bytes[at] = to,
+            Damage::Tail(more, byte) => bytes.extend(vec![byte; more]),
+            _ => {}
+        }
+    }
+}
+
+impl Field {
+    fn stretch(&mut self, more: i32) {
+        let length = (self.body.len() as i64 + i64::from(more)).max(0) as usize;
+        self.body.resize(length, 0);
+        self.length = length as u16;
+    }
+}

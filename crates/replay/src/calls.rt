@@ -1,0 +1,68 @@
+// The library's calls by their numbers, each on what an entry lends.
+
+// What comes back where there is no such call: no refusal's word is so high.
+const UNKNOWN: u64 = 0xffff_ffff_ffff_ffff;
+
+// 1 to 5: the kernel's calls.
+pub(crate) fn kernel_call(
+    call: u8,
+    id: u32,
+    policy: &[u8],
+    request: &[u8],
+    bytes: &[u8],
+    out: &mut [u8],
+) -> u64 {
+    match call {
+        1 => volankizo::volankizo_prescribe(policy, request, bytes, out),
+        2 => volankizo::volankizo_prescribe_checked(policy, request, bytes, out),
+        3 => volankizo::volankizo_utility_for_model(policy, request, bytes, id, out),
+        4 => volankizo::volankizo_find(bytes, id, out),
+        5 => volankizo::volankizo_check_request(request),
+        _ => UNKNOWN,
+    }
+}
+
+// 6 to 11, but for 9: those above it.
+pub(crate) fn call_above(
+    call: u8,
+    id: u32,
+    place: u64,
+    policy: &[u8],
+    request: &[u8],
+    bytes: &[u8],
+    space: &mut [u8],
+    out: &mut [u8],
+) -> u64 {
+    match call {
+        6 => volankizo::volankizo_explain(policy, request, bytes, space, out),
+        7 => volankizo::volankizo_next_eligible(bytes, place, out),
+        8 => volankizo::volankizo_validate(policy, bytes),
+        10 => volankizo::volankizo_what_would_win(policy, request, bytes, id, out),
+        11 => volankizo::volankizo_decision_margin(policy, request, bytes, out),
+        _ => UNKNOWN,
+    }
+}
+
+// 12 to 19: a record's offset, the two forms, and what is printed.
+pub(crate) fn form_call(
+    call: u8,
+    id: u32,
+    place: u64,
+    policy: &[u8],
+    request: &[u8],
+    bytes: &[u8],
+    space: &mut [u8],
+    out: &mut [u8],
+) -> u64 {
+    match call {
+        12 => volankizo::volankizo_record_at(bytes, place, out),
+        13 => volankizo::volankizo_write_stored(policy, bytes, out),
+        14 => volankizo::volankizo_read_stored(bytes, space, out),
+        15 => volankizo::volankizo_write_request(request, out),
+        16 => volankizo::volankizo_read_request(bytes, out),
+        17 => volankizo::volankizo_unit_text(bytes, out),
+        18 => volankizo::volankizo_ask_text(bytes, id, out),
+        19 => volankizo::volankizo_ask_words(bytes, id, out),
+        _ => UNKNOWN,
+    }
+}

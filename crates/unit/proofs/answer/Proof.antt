@@ -1,0 +1,20 @@
+-- `unit::answer` meets its contract. Assumes nothing.
+use Prim.Native.Nat.{_≤_}
+use native.Mathlib.Omega.{arith}
+use denote.Ref.{now}
+use lib.ListN.{length}
+use Rattle.rules.specs.Printed.{unitText}
+use Rattle.printed.proofs.Answers.{printed-counts, printed-whole}
+use borrow.Author.Needs.{needs}
+use Rattle.unit.proofs.answer.Statement.{statement}
+use Rattle.unit.proofs.answer.Tie as tie
+
+returns : tie.Need-returns
+returns c =
+    let u = c .before .before .before .unit-text .ensures in
+    let s = c .before .before .before .before .before .before .before in
+    let fits : length (unitText (now (s .args .input))) ≤ length (now (s .args .out)) = omega (arith, u .2, s .pre) in
+    (printed-counts _ _ fits (u .0) (u .1) (c .end-of .ensures), printed-whole _ _ fits (u .0) (u .1) (c .end-of .ensures))
+
+pub answer-spec : {M : Type 1} → statement M
+answer-spec = tie.close (tie.spec (λ c κs. search needs) (λ c κs. search needs) (λ c. search needs) returns)
