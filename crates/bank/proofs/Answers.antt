@@ -2,7 +2,7 @@
 use Prim.Native.Nat.{ℕ}
 use mathlib.Core.List.{List}
 use mathlib.Core.Path.{_≡_, sym, _∙_}
-use Rattle.rules.specs.Numbers.{toldOutcome}
+use Rattle.rules.specs.Refused.{toldOutcome}
 use Rattle.rules.specs.Listing.{readingOf, recordOf}
 use Rattle.rules.specs.declared.refusal.Outcome.{Outcome}
 use Rattle.rules.proofs.Told.{one-outcome}

@@ -1,7 +1,4 @@
 -- Laws on records and banks that code proofs and the crates above cite.
-pub mod Layouts
-pub mod Packing
-pub mod Trips
 pub mod Refusals
 pub mod Answers
 pub mod Listing

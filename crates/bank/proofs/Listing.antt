@@ -1,11 +1,11 @@
 -- A bank as a list of records: how many there are, and which stands where. Assumes nothing.
 use Prim.Native.Nat.{ℕ, zero, suc, _+_, _<_}
-use mathlib.Core.List.{List}
+use mathlib.Core.List.{List, []}
 use mathlib.Core.Path.{_≡_, refl, ap}
 use native.Mathlib.Omega.{arith}
 use native.Mathlib.Nat.{zero-add, add-zero, add-suc, suc-add}
 use lib.ListN.{length, getD}
-use Rattle.rules.specs.Records.{Listed, listed, listedFrom, listedOf, modelAt, recordsIn}
+use Rattle.rules.specs.Records.{Listed, listed, listedFrom, listedOf, modelAt, modelOf, recordsIn}
 
 length-from : (bank : List ℕ) (place n : ℕ) → length (listedFrom bank place n) ≡ n
 length-from bank place zero = refl
@@ -25,3 +25,7 @@ length-listed bank = length-from bank 0 (recordsIn (length bank))
 pub listed-at : (bank : List ℕ) (i : ℕ) (d : Listed) → i < recordsIn (length bank) → getD (listedOf bank) i d ≡ listed i (modelAt bank i)
 unfolding listedOf
 listed-at bank i d h = rw zero-add at (from-at bank 0 (recordsIn (length bank)) i d h)
+
+-- What stands past the end of a list of records
+abbrev pub nowhere : Listed
+nowhere = listed 0 (modelOf [])

@@ -10,7 +10,7 @@ use lib.ListN.{length}
 use Rattle.rules.specs.Limits.{recordBytes, maxCatalogModels}
 use Rattle.rules.specs.Choice.{below, equal}
 use Rattle.rules.specs.Records.{recordsIn, recordPart}
-use Rattle.rules.specs.Numbers.{Fault, Faults, fault, noFault, firstFault, toldRefusal, toldOutcome, lengthFaults}
+use Rattle.rules.specs.Refused.{Fault, Faults, fault, noFault, firstFault, toldRefusal, toldOutcome, lengthFaults}
 use Rattle.rules.specs.Listing.{readingFaults, readingOf, partUnless, recordOf}
 use Rattle.rules.specs.declared.refusal.Refusal.{Refusal}
 use Rattle.rules.specs.declared.refusal.Refusal.the-variants as refusal

@@ -7,7 +7,8 @@ use lib.ListN.{length, drop, getD, length-map, List·getD-append, List·getD-map
 use lib.Seq.{drop-at}
 use Rattle.rules.specs.Bytes.{filled}
 use Rattle.rules.specs.Records.{listedOf}
-use Rattle.rules.specs.Numbers.{Faults, bankFaults, answered, listUnless, toldDecision, toldOutcome, Decision}
+use Rattle.rules.specs.Refused.{Faults, bankFaults, answered, listUnless, toldOutcome}
+use Rattle.rules.specs.Numbers.{toldDecision, Decision}
 use Rattle.rules.specs.Decide.{decisionOf, prescribeOf}
 use Rattle.rules.specs.Batch.{batchFaults, batchCheckedFaults, decisionsOf, batchOf, batchRow, batchCheckedOf, batchCheckedRow}
 use Rattle.rules.specs.declared.records.KernelInput.{KernelInput}

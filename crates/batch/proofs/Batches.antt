@@ -1,17 +1,14 @@
 -- What a batch answers and leaves in the row, by whether its tests refuse it. Assumes nothing.
 use Prim.Native.Nat.{ℕ, _≤_}
-use native.Mathlib.Omega.{arith}
 use mathlib.Core.Path.{_≡_, refl, ap, sym, _∙_}
-use mathlib.Core.Bool.{Bool, true, false, cond}
+use mathlib.Core.Bool.{true, false}
 use mathlib.Core.List.{List, [], _∷_, _++_, map, append-nil}
-use borrow.Author.Tests.{ltb-false}
-use lib.Dec.{ltb}
 use lib.ListN.{length, length-map}
 use Rattle.rules.specs.Limits.{maxCatalogModels}
-use Rattle.rules.specs.Choice.{below}
 use Rattle.rules.specs.Records.{recordsIn, listedOf}
 use Rattle.rules.proofs.Faults.{none-after, room-passed}
-use Rattle.rules.specs.Numbers.{Faults, fault, lengthFaults, roomFaults, listUnless, toldDecision, toldOutcome, Decision}
+use Rattle.rules.specs.Refused.{Faults, lengthFaults, roomFaults, listUnless, toldOutcome}
+use Rattle.rules.specs.Numbers.{toldDecision, Decision}
 use Rattle.rules.specs.Decide.{decisionOf}
 use Rattle.rules.specs.Batch.{batchFaults, requestsFaults, batchCheckedFaults, decisionsOf, batchOf, batchRow, batchCheckedOf, batchCheckedRow}
 use Rattle.rules.specs.declared.records.KernelInput.{KernelInput}
@@ -19,8 +16,8 @@ use Rattle.rules.specs.declared.records.PolicySnapshot.{PolicySnapshot}
 use Rattle.rules.specs.declared.decision.KernelDecision.{KernelDecision}
 use Rattle.rules.specs.declared.refusal.Outcome.{Outcome}
 use Rattle.rules.specs.declared.refusal.Outcome.the-variants.{Answered, Refused}
-use Rattle.kernel.specs.Refuse.{leading, toldLeading}
-use Rattle.kernel.proofs.Refusals.{leading-told, checked-room}
+use Rattle.outset.specs.Refuse.{leading, toldLeading}
+use Rattle.outset.proofs.Refusals.{leading-told, checked-room}
 use Rattle.batch.specs.Refuse.{refuses, orElse, badFrom}
 use Rattle.batch.specs.Fill.{atLast}
 use Rattle.batch.proofs.Filling.{at-last}

@@ -3,4 +3,5 @@ pub mod Filling
 pub mod Testing
 pub mod Batches
 pub mod Asking
+mod Handed
 pub mod Answers

@@ -7,13 +7,13 @@ use mathlib.Core.List.{List, [], _∷_, _++_}
 use mathlib.Core.Option.{Option, none, some}
 use lib.ListN.{length, drop, getD, drop-of-length-le}
 use lib.Seq.{drop-cons}
-use Rattle.rules.specs.Numbers.{Fault, Faults}
+use Rattle.rules.specs.Refused.{Fault, Faults}
 use Rattle.rules.specs.Decide.{requestFaults}
 use Rattle.rules.specs.Batch.{requestsFaults}
 use Rattle.rules.specs.declared.records.KernelInput.{KernelInput}
 use Rattle.rules.specs.declared.refusal.Outcome.{Outcome}
 use Rattle.rules.specs.declared.refusal.Outcome.the-variants.{Answered, Refused}
-use Rattle.kernel.specs.Refuse.{leading, toldLeading}
+use Rattle.outset.specs.Refuse.{leading, toldLeading}
 use Rattle.batch.specs.Refuse.{refuses, orElse, badFrom}
 
 -- JOINED TESTS hand back what the first ones do, else what those after them do

@@ -3,12 +3,12 @@ use Prim.Native.Nat.{ℕ, suc}
 use mathlib.Core.Bool.{Bool, true, false}
 use mathlib.Core.List.{List, [], _∷_}
 use mathlib.Core.Option.{Option, none, some}
-use Rattle.rules.specs.Numbers.{Fault}
+use Rattle.rules.specs.Refused.{Fault}
 use Rattle.rules.specs.Decide.{requestFaults}
 use Rattle.rules.specs.declared.records.KernelInput.{KernelInput}
 use Rattle.rules.specs.declared.refusal.Outcome.{Outcome}
 use Rattle.rules.specs.declared.refusal.Outcome.the-variants.{Answered, Refused}
-use Rattle.kernel.specs.Refuse.{leading}
+use Rattle.outset.specs.Refuse.{leading}
 
 -- Whether a call was refused
 unfoldable pub refuses : Outcome → Bool

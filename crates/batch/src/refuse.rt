@@ -1,10 +1,10 @@
 // What a batch refuses: the bank's length, the room of the row, then the requests.
 ghost use mathlib.Core.Path.{_≡_};
 ghost use mathlib.Core.List.{_++_};
-ghost use Rattle.rules.specs.Numbers.{lengthFaults, roomFaults};
-ghost use Rattle.kernel.specs.Refuse.{leading, toldLeading};
+ghost use Rattle.rules.specs.Refused.{lengthFaults, roomFaults};
+ghost use Rattle.outset.specs.Refuse.{leading, toldLeading};
 ghost use Rattle.batch.specs.Refuse.{refuses, orElse};
-use kernel::refuse::bank_outcome;
+use outset::refuse::bank_outcome;
 use rules::Outcome;
 use rules::Refusal;
 

@@ -4,11 +4,11 @@ use mathlib.Core.Path.{_≡_, refl, sym, ap, _∙_}
 use mathlib.Core.Bool.{Bool, true, false}
 use mathlib.Core.List.{List, [], _∷_}
 use mathlib.Core.Option.{Option, none, some}
-use native.Mathlib.Omega.{arith}
 use lib.Dec.{eqb}
 use Rattle.rules.specs.Choice.{pick, equal}
 use Rattle.rules.specs.Records.{Listed, inputOf, policyOf, listedOf}
-use Rattle.rules.specs.Numbers.{fault, toldRefusal, toldOutcome, refused, answered, unless, Decision, isRejection, Boundary, toldBoundaries}
+use Rattle.rules.specs.Refused.{fault, toldRefusal, toldOutcome, refused, answered, unless}
+use Rattle.rules.specs.Numbers.{Decision, isRejection, Boundary, toldBoundaries}
 use Rattle.rules.specs.Listing.{firstListed}
 use Rattle.rules.specs.Decide.{stoppedBy, decisionOf}
 use Rattle.rules.specs.Levers.{Question, selects, noSearch, boundaryOf, boundaryRefused}
@@ -21,20 +21,15 @@ use Rattle.rules.specs.declared.refusal.Outcome.{Outcome}
 use Rattle.rules.specs.declared.refusal.Outcome.the-variants.{Answered, Refused}
 use Rattle.rules.specs.declared.boundary.Boundaries.{Boundaries}
 use Rattle.rules.proofs.Choices.{equal-yes, equal-no}
-use Rattle.rules.proofs.Told.{outcome-back, one-outcome}
+use Rattle.rules.proofs.Told.{one-outcome}
 use Rattle.layout.specs.Layout.{boundarySize}
-use Rattle.boundary.specs.Boundary.{openingFaults, refusedIn, ifAnswered, toldBounds, winOf, winFaults, marginOf, marginFaults}
-use Rattle.boundary.proofs.Places.{Placeless, joined, if-not, opening-placeless}
-use Rattle.boundary.proofs.Openings.{opening-bank}
+use Rattle.opening.specs.Opening.{openingFaults}
+use Rattle.opening.proofs.Places.{Placeless, joined, if-not, opening-placeless}
+use Rattle.opening.proofs.Openings.{opening-bank}
+use Rattle.boundary.specs.Boundary.{refusedIn, ifAnswered, toldBounds, winOf, winFaults, marginOf, marginFaults}
+use Rattle.bank.proofs.Refusals.{refusal-number}
 
 -- ---- what is told
-
--- no refusal has number 0
-numbered : (r : Refusal) → toldRefusal r .number ≡ 0 → ⊥
-numbered r e =
-    let same : Refused r ≡ Answered = rw e at (sym (outcome-back (Refused r))) in
-    let z : _≡_ {A = ℕ} 0 1 = cc in
-    omega arith
 
 -- AN ANSWER AS THE RULE HAS IT tells its refusal, or the whole rule
 pub told-own : (r : Boundaries) {b : Boundary} → toldBoundaries r ≡ b → toldBounds r ≡ unless (refusedIn b) (answered b)
@@ -44,7 +39,7 @@ told-own r {b} e = ap (ifAnswered (r .outcome)) e ∙ go (r .outcome) (ap (λ (a
     go : (o : Outcome) → toldOutcome o ≡ b .refusal → ifAnswered o b ≡ unless (refusedIn b) (answered b)
     go Answered h = sym (ap (λ fs. unless fs (answered b)) (equal-yes (b .refusal .number) 0 [] (b .refusal ∷ []) (sym (ap (λ f. f .number) h))))
     go (Refused x) h =
-        sym (ap (λ fs. unless fs (answered b)) (equal-no (b .refusal .number) 0 [] (b .refusal ∷ []) (λ z. numbered x (ap (λ f. f .number) h ∙ z))) ∙ ap refused (sym h))
+        sym (ap (λ fs. unless fs (answered b)) (equal-no (b .refusal .number) 0 [] (b .refusal ∷ []) (λ z. refusal-number x (ap (λ f. f .number) h ∙ z))) ∙ ap refused (sym h))
 
 -- A refusal and nothing else
 pub told-refused : {o : Outcome} {x : Refusal} (r : Boundaries) → o ≡ Refused x → toldBoundaries r ≡ boundaryRefused (toldRefusal x) → toldBounds r ≡ refused (toldRefusal x)

@@ -7,13 +7,13 @@ use lib.ListN.{length}
 use Rattle.rules.specs.Limits.{maxBps, maxRiskMultiplier, maxProviderId, policyBytes}
 use Rattle.rules.specs.Choice.{below, equal}
 use Rattle.rules.specs.Records.{Listed, listedOf, policyOf}
-use Rattle.rules.specs.Numbers.{fault, policyFault, modelFault}
+use Rattle.rules.specs.Refused.{fault, policyFault, modelFault}
 use Rattle.rules.specs.Validate.{policyFaults, emptyFaults, repeatFaults, providerFaults, modelFaults, recordFaults, recordsFaults, offFaults, catalogFaults}
 use Rattle.rules.specs.Trust.{reservedFaults, flagFaults, earlyFaults, orderedOf}
 use Rattle.rules.specs.declared.records.KernelModel.{KernelModel}
 use Rattle.rules.specs.declared.records.PolicySnapshot.{PolicySnapshot}
 use Rattle.boundary.specs.Boundary.{validateFaults, trustFaults}
-use Rattle.boundary.proofs.Places.{Placeless, joined, no-fault, one-fault, either, if-so, sizes, lengths}
+use Rattle.opening.proofs.Places.{Placeless, joined, no-fault, one-fault, either, if-so, sizes, lengths}
 
 -- ---- validation
 

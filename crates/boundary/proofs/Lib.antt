@@ -1,7 +1,5 @@
--- Laws on faults, words and buffers that the proofs of the exported functions cite.
-pub mod Openings
+-- Laws on faults and answers that the proofs of the exported functions cite.
+pub mod Passed
 pub mod Places
 pub mod Catalogs
 pub mod Bounds
-pub mod Handed
-pub mod Words

@@ -1,68 +1,23 @@
--- No call here is of a batch: the place of its first fault is 0, so that the fault's word has room for it. Assumes nothing.
-use Prim.Native.Nat.{ℕ, _%_}
-use mathlib.Core.Path.{_≡_, refl}
+-- The calls that decide tell no place. Assumes nothing.
+use Prim.Native.Nat.{ℕ}
+use mathlib.Core.Path.{refl}
 use mathlib.Core.Bool.{Bool, true, false, cond}
-use mathlib.Core.List.{List, [], _∷_, _++_}
+use mathlib.Core.List.{List}
 use mathlib.Core.Option.{Option, none, some}
 use lib.Dec.{eqb, ltb}
 use lib.ListN.{length}
-use Rattle.rules.specs.Limits.{recordBytes, maxBps, maxCatalogModels, policyBytes, requestBytes}
 use Rattle.rules.specs.Choice.{below, equal}
-use Rattle.rules.specs.Records.{Listed, recordsIn, inputOf, policyOf, listedOf}
-use Rattle.rules.specs.Numbers.{Fault, Faults, fault, inputFault, firstFault, lengthFaults, roomFaults, refused, answered, Verdict}
+use Rattle.rules.specs.Records.{Listed, inputOf, policyOf, listedOf}
+use Rattle.rules.specs.Refused.{fault, refused, answered}
+use Rattle.rules.specs.Numbers.{Verdict}
 use Rattle.rules.specs.Listing.{firstListed}
 use Rattle.rules.specs.Verdict.{verdictOf}
-use Rattle.rules.specs.Decide.{stoppedBy, requestFaults, ifListed, utilityIn}
+use Rattle.rules.specs.Decide.{stoppedBy, ifListed, utilityIn}
 use Rattle.rules.specs.declared.records.KernelInput.{KernelInput}
 use Rattle.rules.specs.declared.records.PolicySnapshot.{PolicySnapshot}
 use Rattle.layout.specs.Layout.{uncountedSize, decisionSize}
-use Rattle.boundary.specs.Boundary.{sizeFaults, lentFaults, openingFaults, prescribeCheckedFaults, faultsIn, utilityFaults, checkFaults, utilitySize, explainFaults, explainEntries}
-
-pub record Placeless (fs : Faults) : Type 0 where
-  pub zero : firstFault fs .place ≡ 0
-
-pub joined : {fs gs : Faults} → Placeless fs → Placeless gs → Placeless (fs ++ gs)
-joined {fs} {gs} p q = record { zero = go fs (p .zero) }
-  where
-    go : (hs : Faults) → firstFault hs .place ≡ 0 → firstFault (hs ++ gs) .place ≡ 0
-    go [] h = q .zero
-    go (h ∷ hs) e = e
-
--- none, one, or either of two by a test
-pub no-fault : Placeless []
-no-fault = record { zero = refl }
-
-pub one-fault : (f : Fault) → f .place ≡ 0 → Placeless (f ∷ [])
-one-fault f e = record { zero = e }
-
-pub either : {fs gs : Faults} (t : Bool) → Placeless fs → Placeless gs → Placeless (cond t fs gs)
-either true p q = p
-either false p q = q
-
-pub if-so : (t : Bool) (f : Fault) → f .place ≡ 0 → Placeless (cond t (f ∷ []) [])
-if-so t f e = either t (one-fault f e) no-fault
-
-pub if-not : (t : Bool) (f : Fault) → f .place ≡ 0 → Placeless (cond t [] (f ∷ []))
-if-not t f e = either t no-fault (one-fault f e)
-
-pub sizes : (have want : ℕ) → Placeless (sizeFaults have want)
-unfolding sizeFaults equal
-sizes have want = if-not (eqb have want) (fault 22) refl
-
-pub lengths : (n : ℕ) → Placeless (lengthFaults n)
-unfolding lengthFaults equal below
-lengths n = joined (if-not (eqb (n % recordBytes) 0) (fault 1) refl) (if-so (ltb maxCatalogModels (recordsIn n)) (fault 2) refl)
-
-pub rooms : (needed room : ℕ) → Placeless (roomFaults needed room)
-unfolding roomFaults below
-rooms needed room = if-so (ltb room needed) (fault 4) refl
-
-fields : (q : KernelInput) → Placeless (requestFaults q 0)
-unfolding requestFaults below
-fields q =
-    joined
-    (joined (if-so (ltb maxBps (q .«risk_bps»)) (inputFault 1 (q .«risk_bps») 0) refl) (if-so (ltb maxBps (q .«confidence_bps»)) (inputFault 2 (q .«confidence_bps») 0) refl))
-    (if-so (ltb maxBps (q .«minimum_quality_bps»)) (inputFault 3 (q .«minimum_quality_bps») 0) refl)
+use Rattle.opening.proofs.Places.{Placeless, joined, rooms, fields, opening-placeless}
+use Rattle.boundary.specs.Boundary.{prescribeCheckedFaults, faultsIn, utilityFaults, utilitySize, explainFaults, explainEntries}
 
 utilities : (p : PolicySnapshot) (q : KernelInput) (id : ℕ) (ls : List Listed) → Placeless (faultsIn (utilityIn p q id ls))
 unfolding utilityIn below equal
@@ -82,23 +37,13 @@ utilities p q id ls = stop (ltb 0 (stoppedBy p q))
 
 -- ---- the calls
 
-pub lent-placeless : (bank : List ℕ) (needed room : ℕ) → Placeless (lentFaults bank needed room)
-lent-placeless bank needed room = joined (lengths (length bank)) (rooms needed room)
-
-pub check-placeless : (request : List ℕ) → Placeless (checkFaults request)
-check-placeless request = joined (sizes (length request) requestBytes) (fields (inputOf request))
-
 module _ (policy request bank : List ℕ) where
-  pub opening-placeless : (needed room : ℕ) → Placeless (openingFaults policy request bank needed room)
-  opening-placeless needed room =
-      joined (sizes (length policy) policyBytes) (joined (sizes (length request) requestBytes) (lent-placeless bank needed room))
-
   pub checked-placeless : (room : ℕ) → Placeless (prescribeCheckedFaults policy request bank room)
-  checked-placeless room = joined (opening-placeless decisionSize room) (fields (inputOf request))
+  checked-placeless room = joined (opening-placeless policy request bank decisionSize room) (fields (inputOf request))
 
   pub utility-placeless : (id room : ℕ) → Placeless (utilityFaults policy request bank id room)
-  utility-placeless id room = joined (opening-placeless utilitySize room) (utilities (policyOf policy) (inputOf request) id (listedOf bank))
+  utility-placeless id room = joined (opening-placeless policy request bank utilitySize room) (utilities (policyOf policy) (inputOf request) id (listedOf bank))
 
   pub explain-placeless : (list : List ℕ) (room : ℕ) → Placeless (explainFaults policy request bank list room)
   explain-placeless list room =
-      joined (opening-placeless uncountedSize room) (rooms (length (explainEntries policy request bank)) (length list))
+      joined (opening-placeless policy request bank uncountedSize room) (rooms (length (explainEntries policy request bank)) (length list))

@@ -1,17 +1,19 @@
--- The boundary: for each exported function its refusals in their order, and the bytes that it writes where it answers.
+-- The boundary: for each exported function that decides, or that explains, checks or bounds a decision, its refusals in their order, and the
+-- bytes that it writes where it answers.
 -- A function's word is `wordOf` of its first fault, and its buffer is `listUnless` of its faults and bytes.
-use Prim.Native.Nat.{ℕ, _+_, _*_, _^_}
+use Prim.Native.Nat.{ℕ}
 use mathlib.Core.List.{List, [], _∷_, _++_}
 use mathlib.Core.Option.{Option, none, some}
 use lib.IntN.{ℤ, pos}
 use lib.ListN.{length}
 use mir.Syntax.{w64}
 use mir.Val.{ofZ}
-use Rattle.rules.specs.Limits.{requestBytes, policyBytes, noPlace, maxU64}
+use Rattle.rules.specs.Limits.{policyBytes, noPlace, maxU64}
 use Rattle.rules.specs.Choice.{equal}
 use Rattle.rules.specs.Bytes.{bytesOf}
 use Rattle.rules.specs.Records.{listedOf, inputOf, policyOf}
-use Rattle.rules.specs.Numbers.{Fault, Faults, fault, bankFaults, roomFaults, toldRefusal, Answer, refused, answered, Decision, DecisionAndTrace, Boundary, toldBoundaries}
+use Rattle.rules.specs.Refused.{Faults, bankFaults, roomFaults, toldRefusal, Answer, refused, answered}
+use Rattle.rules.specs.Numbers.{Decision, DecisionAndTrace, Boundary, toldBoundaries}
 use Rattle.rules.specs.Listing.{firstListed, placeOf}
 use Rattle.rules.specs.Decide.{decisionOf, tracedOf, requestFaults, utilityIn}
 use Rattle.rules.specs.Explain.{explanationOf}
@@ -23,23 +25,7 @@ use Rattle.rules.specs.declared.refusal.Outcome.{Outcome}
 use Rattle.rules.specs.declared.refusal.Outcome.the-variants as outcome
 use Rattle.rules.specs.declared.boundary.Boundaries.{Boundaries}
 use Rattle.layout.specs.Layout.{uncountedSize, decisionSize, boundarySize}
-
--- A refusal as one word: its number, field and value, and its id or place, of which one is 0. No refusal is 0
-abbrev pub wordOf : Fault → ℕ
-wordOf f = f .number + 2 ^ 8 * f .field + 2 ^ 16 * f .value + 2 ^ 32 * (f .id + f .place)
-
--- 22 where a policy or a request has another length than its own
-unfoldable pub sizeFaults : ℕ → ℕ → Faults
-sizeFaults have want = equal have want [] (fault 22 ∷ [])
-
--- 1, 2, 4: the bank, then the buffer, which has room for so many bytes and needs so many
-abbrev pub lentFaults : List ℕ → ℕ → ℕ → Faults
-lentFaults bank needed room = bankFaults bank ++ roomFaults needed room
-
--- 22, 1, 2, 4: what comes in as bytes, then the bank and the buffer
-abbrev pub openingFaults : List ℕ → List ℕ → List ℕ → ℕ → ℕ → Faults
-openingFaults policy request bank needed room =
-    sizeFaults (length policy) policyBytes ++ (sizeFaults (length request) requestBytes ++ lentFaults bank needed room)
+use Rattle.opening.specs.Opening.{sizeFaults, lentFaults, openingFaults}
 
 -- ---- `volankizo_prescribe` and `volankizo_prescribe_checked`
 
@@ -102,12 +88,6 @@ placeOr (some place) = place
 
 abbrev pub placeBytes : Option ℕ → List ℕ
 placeBytes place = bytesOf placeSize (placeOr place)
-
--- ---- `volankizo_check_request`
-
--- 22, 3
-abbrev pub checkFaults : List ℕ → Faults
-checkFaults request = sizeFaults (length request) requestBytes ++ requestFaults (inputOf request) 0
 
 -- ---- `volankizo_explain`
 

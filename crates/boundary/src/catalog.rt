@@ -6,7 +6,7 @@ use rules::Outcome;
 use rules::Refusal;
 use rules::limits::POLICY_BYTES;
 ghost use mathlib.Core.Path.{_≡_};
-ghost use Rattle.rules.specs.Numbers.{firstFault, toldOutcome};
+ghost use Rattle.rules.specs.Refused.{firstFault, toldOutcome};
 ghost use Rattle.rules.specs.Trust.{orderedUnless};
 ghost use Rattle.boundary.specs.Boundary.{validateFaults, untrustedFaults, trustFaults};
 

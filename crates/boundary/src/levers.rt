@@ -1,15 +1,15 @@
 // The boundary calls, behind the tests of lengths and room.
-use crate::opening::opening_outcome;
 use bank::input_of;
 use bank::policy_of;
 use counterfactual::answer::refused;
 use counterfactual::decision_margin;
 use counterfactual::what_would_win;
 use layout::boundaries::BOUNDARY_BYTES;
+use opening::opening_outcome;
 use rules::Boundaries;
 use rules::Outcome;
 ghost use mathlib.Core.Path.{_≡_};
-ghost use Rattle.rules.specs.Numbers.{answered, unless};
+ghost use Rattle.rules.specs.Refused.{answered, unless};
 ghost use Rattle.boundary.specs.Boundary.{toldBounds, winFaults, winOf, marginFaults, marginOf};
 
 // The levers that would make a model selected. Refused: 22, 1, 2, 4, 5.

@@ -1,7 +1,4 @@
 // The kernel's answers for what comes in as bytes, behind the tests of lengths and room.
-use crate::opening::checked_opening;
-use crate::opening::lent_outcome;
-use crate::opening::opening_outcome;
 use bank::input_of;
 use bank::policy_of;
 use explain::explain;
@@ -11,6 +8,9 @@ use kernel::lent::traced_lent;
 use kernel::utility_for_model;
 use layout::decision::DECISION_BYTES;
 use layout::decision::UNCOUNTED_BYTES;
+use opening::checked_opening;
+use opening::lent_outcome;
+use opening::opening_outcome;
 use rules::Found;
 use rules::NextEligible;
 use rules::Outcome;
@@ -18,7 +18,8 @@ use rules::Prescribed;
 use rules::Traced;
 use rules::UtilityFound;
 ghost use mathlib.Core.Path.{_≡_};
-ghost use Rattle.rules.specs.Numbers.{answered, unless, listUnless, toldPrescribed, toldTraced, toldUtility, toldFound};
+ghost use Rattle.rules.specs.Refused.{answered, unless, listUnless};
+ghost use Rattle.rules.specs.Numbers.{toldPrescribed, toldTraced, toldUtility, toldFound};
 ghost use Rattle.rules.specs.Explain.{nextEligibleOf};
 ghost use Rattle.boundary.specs.Boundary.{prescribed, prescribeFaults, prescribeCheckedFaults, utilityFaults, utilityFrom, utilityOf, findFaults, placeIn, explainFaults, explainDecision, explainEntries, nextOr};
 

@@ -1,10 +1,22 @@
-// Whether a call answers what it must.
-ghost use Prim.Native.Nat.{_≤_, _<_};
-use crate::bytes::MARK;
-use crate::bytes::begins;
-use crate::bytes::untouched;
-use crate::calls::REFUSED;
-use crate::calls::print_into;
+// Whether a call prints what it must.
+ghost use Prim.Native.Nat.{_≤_};
+ghost use lib.ListN.{length};
+use crate::marks::MARK;
+use crate::marks::REFUSED;
+use crate::marks::settled;
+use printed::ask_text;
+use printed::unit_text;
+use rules::Written;
+use words::ask_words;
+
+// The printing calls, by their numbers; the third is `ask_words`.
+pub(crate) const CALLS: usize = 3;
+
+pub(crate) const UNIT: u8 = 0;
+
+pub(crate) const ASK: u8 = 1;
+
+pub(crate) const WORDS: u8 = 2;
 
 // More than any text has.
 pub(crate) const ROOM: usize = 900;
@@ -12,46 +24,40 @@ pub(crate) const ROOM: usize = 900;
 // Stands for three rooms: more than enough, one byte less than enough, none.
 pub(crate) const EACH_ROOM: usize = 901;
 
-// What is to be told: a refusal's number, or 4 where there is too little room, or else the size.
-fn owed(number: u8, size: usize, room: usize) -> usize {
-    if number != 0 {
-        return REFUSED + number as usize;
+fn told(answer: Written) -> usize {
+    match answer {
+        Written::Bytes(n) => n,
+        Written::Refused(refusal) => REFUSED + refusal.number() as usize,
     }
-    if room < size {
-        return REFUSED + 4;
-    }
-    size
 }
 
-// Whether a call that had so much room told what it must, with the bytes at the start of its buffer, or with none changed where it refused.
-pub(crate) fn settled(told: usize, number: u8, buffer: &[u8], bytes: &[u8], room: usize) -> bool {
-    if told != owed(number, bytes.len(), room) {
-        return false;
+fn print(call: u8, input: &[u8], id: u32, out: &mut [u8]) -> usize {
+    if call == UNIT {
+        return told(unit_text(input, out));
     }
-    if told < REFUSED {
-        return begins(buffer, bytes);
+    if call == ASK {
+        return told(ask_text(input, id, out));
     }
-    untouched(buffer)
+    told(ask_words(input, id, out))
+}
+
+// The call has the first bytes of the buffer alone.
+fn print_into(call: u8, input: &[u8], id: u32, out: &mut [u8], room: usize) -> usize
+    requires { ⌜ room ≤ length (now out) ⌝ }
+{
+    print(call, input, id, &mut out[0..room])
 }
 
 fn answers_in(call: u8, input: &[u8], id: u32, text: &[u8], room: usize) -> bool
     requires { ⌜ room ≤ 900 ⌝ }
 {
     let mut out = [MARK; ROOM];
-    let told = print_into(call, input, id, &mut out, room);
-    settled(told, 0, &out, text, room)
+    let size = print_into(call, input, id, &mut out, room);
+    settled(size, 0, &out, text, room)
 }
 
-fn answers_less(call: u8, input: &[u8], id: u32, text: &[u8], room: usize) -> bool
-    requires { ⌜ room ≤ 900 ⌝ }
-{
-    if answers_in(call, input, id, text, room) {
-        return answers_in(call, input, id, text, 0);
-    }
-    false
-}
-
-fn answers_each(call: u8, input: &[u8], id: u32, text: &[u8]) -> bool {
+// Whether a call prints a text, byte for byte, into each of three rooms.
+pub(crate) fn answers_each(call: u8, input: &[u8], id: u32, text: &[u8]) -> bool {
     let size = text.len();
     if size == 0 {
         return false;
@@ -59,13 +65,16 @@ fn answers_each(call: u8, input: &[u8], id: u32, text: &[u8]) -> bool {
     if ROOM < size {
         return false;
     }
-    if answers_in(call, input, id, text, ROOM) {
-        return answers_less(call, input, id, text, size - 1);
+    if !answers_in(call, input, id, text, ROOM) {
+        return false;
     }
-    false
+    if !answers_in(call, input, id, text, size - 1) {
+        return false;
+    }
+    answers_in(call, input, id, text, 0)
 }
 
-// Whether a call prints a text, byte for byte, into so much room or into each of three.
+// The same, or into so much room alone.
 pub(crate) fn answers(call: u8, input: &[u8], id: u32, text: &[u8], room: usize) -> bool {
     if room <= ROOM {
         return answers_in(call, input, id, text, room);

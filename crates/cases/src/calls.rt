@@ -1,16 +1,15 @@
-// The calls that are tried, by their numbers. What a call answers is told as one number.
+// The calls that are tried, each on the first bytes of a buffer alone. What a call answers is told as one number.
 ghost use Prim.Native.Nat.{_≤_};
 ghost use lib.ListN.{length};
 use crate::example::AFTER_BANK;
 use crate::example::BANK;
 use crate::example::END;
 use crate::example::example;
-use crate::example::policy;
-use crate::example::request;
-use bank::input_bytes;
-use bank::policy_bytes;
-use printed::ask_text;
-use printed::unit_text;
+use crate::marks::REFUSED;
+use crate::parts::policy;
+use crate::parts::request;
+use packing::input_bytes;
+use packing::policy_bytes;
 use rules::Refusal;
 use rules::RequestRead;
 use rules::StoredRead;
@@ -19,19 +18,6 @@ use stored::read_request;
 use stored::read_stored;
 use stored::write_request;
 use stored::write_stored;
-use words::ask_words;
-
-// Readers of an input; the first three print.
-pub(crate) const UNIT: u8 = 0;
-
-pub(crate) const ASK: u8 = 1;
-
-pub(crate) const STORED: u8 = 3;
-
-pub(crate) const REQUEST: u8 = 4;
-
-// A refusal is told as its number above this one, and anything else as a number of bytes.
-pub(crate) const REFUSED: usize = 1_000_000;
 
 // A policy or a request that isn't the example's.
 const ANOTHER: usize = 2_000_000;
@@ -47,23 +33,6 @@ fn written(answer: Written) -> usize {
     }
 }
 
-fn print(call: u8, input: &[u8], id: u32, out: &mut [u8]) -> usize {
-    if call == UNIT {
-        return written(unit_text(input, out));
-    }
-    if call == ASK {
-        return written(ask_text(input, id, out));
-    }
-    written(ask_words(input, id, out))
-}
-
-// Each of these hands a call the first bytes of a buffer alone.
-pub(crate) fn print_into(call: u8, input: &[u8], id: u32, out: &mut [u8], room: usize) -> usize
-    requires { ⌜ room ≤ length (now out) ⌝ }
-{
-    print(call, input, id, &mut out[0..room])
-}
-
 // The size, if the bytes are those of a part of the example.
 fn if_example(bytes: &[u8], start: usize, end: usize, size: usize) -> usize
     requires { ⌜ (start ≤ end) × (end ≤ 203) ⌝ }
@@ -75,7 +44,11 @@ fn if_example(bytes: &[u8], start: usize, end: usize, size: usize) -> usize
     ANOTHER
 }
 
-fn bank_read(read: StoredRead) -> usize {
+// Told as the bank's size.
+pub(crate) fn read_into(form: &[u8], out: &mut [u8], room: usize) -> usize
+    requires { ⌜ room ≤ length (now out) ⌝ }
+{
+    let read = read_stored(form, &mut out[0..room]);
     match read {
         StoredRead::Refused(refusal) => refused(refusal),
         StoredRead::Read(policy, size) => {
@@ -83,13 +56,6 @@ fn bank_read(read: StoredRead) -> usize {
             if_example(&body, 3, BANK, size)
         }
     }
-}
-
-// Told as the bank's size.
-pub(crate) fn read_into(form: &[u8], out: &mut [u8], room: usize) -> usize
-    requires { ⌜ room ≤ length (now out) ⌝ }
-{
-    bank_read(read_stored(form, &mut out[0..room]))
 }
 
 // Told as 0.

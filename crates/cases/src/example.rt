@@ -1,6 +1,4 @@
-// The worked example: the 203 bytes of its input, and the numbers that they stand for.
-use rules::KernelInput;
-use rules::PolicySnapshot;
+// The worked example: the 203 bytes of its input.
 
 // Where the bank's field begins, its models, the request's field, and the end.
 pub(crate) const BANK: usize = 33;
@@ -24,33 +22,4 @@ pub(crate) fn example() -> [u8; 203] {
         \x02\0\0\0\x01\0\x40\x1f\x40\x1f\x01\x32\0\0\0\x01\0\0\0\0\0\0\0\x01\0\0\0\0\0\0\0\x40\x42\x0f\0\0\0\0\0\x80\x84\x1e\0\0\0\0\0\
         \x03\x46\0\x2a\0\0\0\0\0\0\0\x01\0\0\0\x64\0\0\0\x64\0\0\0\x10\x27\0\0\0\0\0\0\x88\x13\0\0\0\0\0\0\
         \xe8\x03\x10\x27\x88\x13\0\0\0\0\x01\0\0\0\0\0\0\0\xff\xff\xff\xff\xff\xff\xff\xff\0\0\0\0\0\0\0\0"
-}
-
-pub(crate) fn policy() -> PolicySnapshot {
-    PolicySnapshot {
-        policy_epoch: 7,
-        catalog_epoch: 3,
-        hard_risk_limit_bps: 9_000,
-        minimum_confidence_bps: 2_000,
-        risk_penalty_multiplier_bps: 10_000,
-        latency_penalty_microunits_per_ms: 10,
-    }
-}
-
-pub(crate) fn request() -> KernelInput {
-    KernelInput {
-        request_sequence: 42,
-        requested_model_id: 1,
-        input_tokens: 100,
-        output_tokens: 100,
-        business_value_microunits: 10_000,
-        budget_limit_microunits: 5_000,
-        risk_bps: 1_000,
-        confidence_bps: 10_000,
-        minimum_quality_bps: 5_000,
-        max_p95_latency_ms: 0,
-        required_capabilities: 1,
-        allowed_provider_mask: 0xffff_ffff_ffff_ffff,
-        required_region_mask: 0,
-    }
 }

@@ -1,7 +1,7 @@
 // What can be wrong with an input, in the order in which it is tested: 20 to 22 field by field, 19, 10 for each limit of the policy, 11, the
 // first model's 13 and 14, the second one's 12, 13 and 14, then 15, then 3 for each field of the request, and 5 for an id that isn't listed.
 ghost use Prim.Native.Nat.{_+_, _≤_};
-use crate::calls::UNIT;
+use crate::answers::UNIT;
 
 pub(crate) const FAULTS: usize = 33;
 
@@ -15,8 +15,9 @@ pub(crate) const ALL_OFF: usize = 28;
 
 pub(crate) const UNLISTED: usize = 32;
 
-// Document 01's numbers. For each field: no byte where it is due, a cut header, a wrong tag, a wrong length, a cut body.
-fn number_of(fault: usize) -> u8 {
+// Document 01's numbers. For each field: no byte where it is due, a cut header, a wrong tag, a wrong length, a cut body. The unit's program
+// is asked about no id.
+pub(crate) fn number_for(call: u8, fault: usize) -> u8 {
     match fault {
         0 | 5 | 10 => 21,
         1 | 6 | 11 => 20,
@@ -32,16 +33,13 @@ fn number_of(fault: usize) -> u8 {
         24 => 12,
         28 => 15,
         29..=31 => 3,
-        _ => 5,
+        _ => {
+            if call == UNIT {
+                return 0;
+            }
+            5
+        }
     }
-}
-
-// The number that a call gives for a fault; the unit's program is asked about no id.
-pub(crate) fn number_for(call: u8, fault: usize) -> u8 {
-    if call == UNIT && fault == UNLISTED {
-        return 0;
-    }
-    number_of(fault)
 }
 
 // Where an input with a fault ends, if its request's field begins at a place; 15 is a byte too many.

@@ -1,102 +1,79 @@
-// Whether a reader answers a form as it must: with a number, or with the example's answer where that is 0.
-ghost use Prim.Native.Nat.{_≤_};
-ghost use lib.ListN.{length};
-use crate::answers::EACH_ROOM;
-use crate::answers::refuses;
-use crate::answers::settled;
-use crate::bytes::MARK;
-use crate::calls::REFUSED;
-use crate::calls::REQUEST;
-use crate::calls::STORED;
-use crate::calls::read_into;
-use crate::calls::request_read;
-use crate::example::AFTER_BANK;
-use crate::example::END;
-use crate::example::MODELS;
-use crate::example::example;
-use crate::texts::is_example;
+// The groups of the stored form and the request form, with how many numbers each has: 1 to 4 are the kinds of damage, with an even number to
+// the stored form and with an odd one to the request form. What a number of another group stands for is said by the function that
+// `case_of` hands it to.
+use crate::banks::LENGTHS;
+use crate::damage::numbers_of;
+use crate::reading::damaged_request;
+use crate::reading::damaged_stored;
+use crate::reading::long;
+use crate::tally::Seen;
+use crate::tally::Tally;
+use crate::tally::noted;
+use crate::writing::REQUEST_ROOMS;
+use crate::writing::SIZE_ROOMS;
+use crate::writing::SIZES;
+use crate::writing::STORED_ROOMS;
+use crate::writing::VAST;
+use crate::writing::VAST_ROOMS;
+use crate::writing::request_room;
+use crate::writing::size;
+use crate::writing::stored_room;
+use crate::writing::vast;
+use std::num::wrapping_add_u64;
 
-// The first byte of the example that a reader takes, and the one after its last.
-pub(crate) fn start_of(reader: u8) -> usize
-    ensures { λ r. ⌜ r ≤ 130 ⌝ }
-{
-    if reader == REQUEST { AFTER_BANK } else { 0 }
-}
+const GROUPS: u64 = 9;
 
-pub(crate) fn end_of(reader: u8) -> usize
-    ensures { λ r. ⌜ (130 ≤ r) × (r ≤ 203) ⌝ }
-{
-    if reader == STORED { AFTER_BANK } else { END }
-}
+// The groups of what is printed come before these.
+const PRINTED: u64 = 10;
 
-// What a printing call says of an input and an id.
-pub(crate) fn prints(call: u8, input: &[u8], id: u32, number: u8) -> bool {
-    if number == 0 {
-        return is_example(call, input, id, EACH_ROOM);
+fn size_of(group: u64) -> usize {
+    match group {
+        1..=4 => numbers_of(group) * 2,
+        5 => LENGTHS,
+        6 => STORED_ROOMS,
+        7 => REQUEST_ROOMS,
+        8 => SIZES * SIZE_ROOMS,
+        _ => VAST * VAST_ROOMS,
     }
-    refuses(call, input, id, number)
 }
 
-// Reads a form into the first bytes of a buffer that is all marks. Too little room comes last.
-pub(crate) fn reads_bank(
-    form: &[u8],
-    bank: &[u8],
-    number: u8,
-    buffer: &mut [u8],
-    room: usize,
-) -> bool
-    requires { ⌜ room ≤ length (now buffer) ⌝ }
-{
-    let told = read_into(form, buffer, room);
-    settled(told, number, buffer, bank, room)
-}
-
-fn reads_in(form: &[u8], number: u8, room: usize) -> bool
-    requires { ⌜ room ≤ 120 ⌝ }
-{
-    let input = example();
-    let mut buffer = [MARK; 120];
-    reads_bank(form, &input[MODELS..AFTER_BANK], number, &mut buffer, room)
-}
-
-// Into more than enough room, one byte less than enough, and none.
-fn reads_stored(form: &[u8], number: u8) -> bool {
-    if !reads_in(form, number, 120) {
-        return false;
+fn damage(kind: u64, number: usize) -> Seen {
+    if number % 2 == 0 {
+        return damaged_stored(kind, number / 2);
     }
-    if !reads_in(form, number, 93) {
-        return false;
-    }
-    reads_in(form, number, 0)
+    damaged_request(kind, number / 2)
 }
 
-fn reads_request(form: &[u8], number: u8) -> bool {
-    let told = request_read(form);
-    if number == 0 {
-        return told == 0;
+fn case_of(group: u64, number: usize) -> Seen {
+    match group {
+        1..=4 => damage(group, number),
+        5 => long(number),
+        6 => stored_room(number),
+        7 => request_room(number),
+        8 => size(number),
+        _ => vast(number),
     }
-    told == REFUSED + number as usize
 }
 
-fn reads(reader: u8, form: &[u8], number: u8) -> bool {
-    if reader == STORED {
-        return reads_stored(form, number);
+fn with_group(tally: Tally, group: u64) -> Tally {
+    let numbers = size_of(group);
+    let name = wrapping_add_u64(PRINTED, group);
+    let mut now = tally;
+    let mut i = 0;
+    while i < numbers {
+        now = noted(now, name, i as u64, case_of(group, i));
+        i += 1;
     }
-    if reader == REQUEST {
-        return reads_request(form, number);
-    }
-    prints(reader, form, 1, number)
+    now
 }
 
-// The same for a part of some bytes.
-pub(crate) fn reads_part(reader: u8, input: &[u8], start: usize, end: usize, number: u8) -> bool
-    requires { ⌜ (start ≤ end) × (end ≤ length (now input)) ⌝ }
-{
-    reads(reader, &input[start..end], number)
-}
-
-pub(crate) fn prints_part(call: u8, input: &[u8], end: usize, id: u32, number: u8) -> bool
-    requires { ⌜ end ≤ length (now input) ⌝ }
-{
-    prints(call, &input[0..end], id, number)
+// The forms' cases, counted on from a tally.
+pub(crate) fn every_form(before: Tally) -> Tally {
+    let mut tally = before;
+    let mut group = 1;
+    while group <= GROUPS {
+        tally = with_group(tally, group);
+        group += 1;
+    }
+    tally
 }

@@ -1,84 +1,78 @@
-// Every group, with how many numbers it has. What a number of a group stands for is said by the function that `case_of` hands it to.
-use crate::damage::READERS;
-use crate::damage::cut;
-use crate::damage::header;
-use crate::damage::long_tail;
-use crate::damage::order;
-use crate::damage::tail;
+// Every group, with how many numbers it has: 1 to 4 are the kinds of damage. What a number of another group stands for is said by the function
+// that `case_of` hands it to.
+use crate::answers::CALLS;
+use crate::banks::LENGTHS;
+use crate::banks::SPACE;
+use crate::damage::NO_CASE;
+use crate::damage::damaged;
+use crate::damage::numbers_of;
 use crate::example::END;
 use crate::example::example;
 use crate::faults::FAULTS;
 use crate::limits::LIMITS;
 use crate::limits::limit;
-use crate::pairs::CALLS;
 use crate::pairs::pair;
 use crate::sizes::BANKS;
-use crate::sizes::LENGTHS;
 use crate::sizes::bank;
 use crate::sizes::length;
+use crate::spoken::SENTENCES;
+use crate::spoken::sentence;
 use crate::tally::Seen;
 use crate::tally::Tally;
 use crate::tally::judged;
 use crate::tally::noted;
+use crate::tally::nothing;
 use crate::texts::is_example;
-use crate::writing::REQUEST_ROOMS;
-use crate::writing::SIZE_ROOMS;
-use crate::writing::SIZES;
-use crate::writing::STORED_ROOMS;
-use crate::writing::request_room;
-use crate::writing::size;
-use crate::writing::stored_room;
+use crate::texts::prints;
 
-const GROUPS: u64 = 13;
+const GROUPS: u64 = 10;
 
 // More rooms than the longest of the example's texts has bytes.
 const ROOMS: usize = 180;
 
-// Group 10: the example printed into each room.
+fn damage(kind: u64, number: usize) -> Seen {
+    let call = (number % CALLS) as u8;
+    let mut input = [0u8; SPACE];
+    let case = damaged(&mut input, 0, END, kind, number / CALLS);
+    if case.number == NO_CASE {
+        return Seen::NoCase;
+    }
+    judged(prints(call, &input, case.end, 1, case.number))
+}
+
+// Group 9: the example printed into each room.
 fn room(number: usize) -> Seen {
     let call = (number % CALLS) as u8;
     let input = example();
     judged(is_example(call, &input, 1, number / CALLS % ROOMS))
 }
 
-fn numbers_of(group: u64) -> usize {
+fn size_of(group: u64) -> usize {
     match group {
-        1 => (END + 1) * READERS,
-        2 => 9 * 256 * READERS,
-        3 => 256 * READERS,
-        4 => 9 * READERS,
-        5 => 256 * READERS,
-        6 => FAULTS * FAULTS * CALLS,
-        7 => LIMITS * CALLS,
-        8 => BANKS * CALLS,
-        9 => LENGTHS * READERS,
-        10 => ROOMS * CALLS,
-        11 => STORED_ROOMS,
-        12 => REQUEST_ROOMS,
-        _ => SIZES * SIZE_ROOMS,
+        1..=4 => numbers_of(group) * CALLS,
+        5 => FAULTS * FAULTS * CALLS,
+        6 => LIMITS * CALLS,
+        7 => BANKS * CALLS,
+        8 => LENGTHS * CALLS,
+        9 => ROOMS * CALLS,
+        _ => SENTENCES,
     }
 }
 
 fn case_of(group: u64, number: usize) -> Seen {
     match group {
-        1 => cut(number),
-        2 => header(number),
-        3 => tail(number),
-        4 => long_tail(number),
-        5 => order(number),
-        6 => pair(number),
-        7 => limit(number),
-        8 => bank(number),
-        9 => length(number),
-        10 => room(number),
-        11 => stored_room(number),
-        12 => request_room(number),
-        _ => size(number),
+        1..=4 => damage(group, number),
+        5 => pair(number),
+        6 => limit(number),
+        7 => bank(number),
+        8 => length(number),
+        9 => room(number),
+        _ => sentence(number),
     }
 }
 
 fn with_group(tally: Tally, group: u64) -> Tally {
-    let numbers = numbers_of(group);
+    let numbers = size_of(group);
     let mut now = tally;
     let mut i = 0;
     while i < numbers {
@@ -89,12 +83,7 @@ fn with_group(tally: Tally, group: u64) -> Tally {
 }
 
 pub(crate) fn every() -> Tally {
-    let mut tally = Tally {
-        cases: 0,
-        different: 0,
-        group: 0,
-        number: 0,
-    };
+    let mut tally = nothing();
     let mut group = 1;
     while group <= GROUPS {
         tally = with_group(tally, group);

@@ -1,9 +1,9 @@
-// Group 7: numbers just within their limits, or just beyond one that doesn't refuse: the place of each in the example, its new value, and
+// Group 6: numbers just within their limits, or just beyond one that doesn't refuse: the place of each in the example, its new value, and
 // the text that it makes.
 ghost use Prim.Native.Nat.{_≤_};
+use crate::answers::CALLS;
 use crate::answers::EACH_ROOM;
 use crate::example::example;
-use crate::pairs::CALLS;
 use crate::tally::Seen;
 use crate::tally::judged;
 use crate::texts::is_example;
@@ -45,11 +45,13 @@ fn risky(call: u8, input: &[u8]) -> bool {
     told(
         call,
         input,
+        1,
         b"decision 42 3 100 0 65535 0 0 0 0 0 0 7 3\n\
             rejected 0 0 0 0 0 0 0 0 0\n",
         b"decision 42 3 100 0 65535 0 0 0 0 0 0 7 3\n\
             passes 1\n",
         b"The request itself is stopped, with reason 100: no change to a model would help.\n",
+        EACH_ROOM,
     )
 }
 
@@ -58,11 +60,13 @@ fn above_ceilings(call: u8, input: &[u8]) -> bool {
     told(
         call,
         input,
+        1,
         b"decision 42 3 110 0 65535 0 0 0 0 2 0 7 3\n\
             rejected 0 0 2 0 0 0 0 0 0\n",
         b"decision 42 3 110 0 65535 0 0 0 0 2 0 7 3\n\
             passes 5\n",
         b"No single change would make model 1 the choice.\n",
+        EACH_ROOM,
     )
 }
 
@@ -71,6 +75,7 @@ fn multiplied(call: u8, input: &[u8]) -> bool {
     told(
         call,
         input,
+        1,
         b"decision 42 2 2 2 1 300 2200 1 1200 2 2 7 3\n\
             rejected 0 0 0 0 0 0 0 0 0\n\
             lever 1 8000 7000 -\n\
@@ -81,6 +86,7 @@ fn multiplied(call: u8, input: &[u8]) -> bool {
             lever 3 1000000 443333 798\n\
             passes 26\n",
         b"Price: 100 percent today; it must fall by at least 55.6667 percent, to 44.3333 percent; the request then costs 798 microunits.\n",
+        EACH_ROOM,
     )
 }
 

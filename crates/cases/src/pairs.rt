@@ -1,6 +1,9 @@
-// Group 6: each fault alone and each two together. What is tested first is what is told.
+// Group 5: each fault alone and each two together. What is tested first is what is told.
 ghost use Prim.Native.Nat.{_+_, _≤_};
 ghost use lib.ListN.{length};
+use crate::answers::CALLS;
+use crate::banks::Models;
+use crate::banks::put_input;
 use crate::example::MODELS;
 use crate::faults::ALL_OFF;
 use crate::faults::BANK_CUT;
@@ -12,15 +15,10 @@ use crate::faults::changed_at;
 use crate::faults::changed_to;
 use crate::faults::end_for;
 use crate::faults::number_for;
-use crate::forms::prints_part;
-use crate::inputs::Models;
-use crate::inputs::put_input;
 use crate::tally::Seen;
 use crate::tally::judged;
+use crate::texts::prints;
 use endian::put16;
-
-// The printing calls.
-pub(crate) const CALLS: usize = 3;
 
 // 901 models, the request, and one byte more.
 const SPACE: usize = 42_457;
@@ -36,48 +34,35 @@ fn is_pair(a: usize, b: usize) -> bool {
     true
 }
 
-fn has(a: usize, b: usize, fault: usize) -> bool {
-    a == fault || b == fault
-}
-
 fn count_for(a: usize, b: usize) -> usize
     ensures { λ r. ⌜ r ≤ 901 ⌝ }
 {
-    if has(a, b, TOO_MANY) {
+    if a == TOO_MANY || b == TOO_MANY {
         return 901;
     }
-    if has(a, b, EMPTY) {
+    if a == EMPTY || b == EMPTY {
         return 0;
     }
     2
 }
 
 fn models_for(a: usize, b: usize) -> Models {
-    if has(a, b, ALL_OFF) {
+    if a == ALL_OFF || b == ALL_OFF {
         Models::Off
     } else {
         Models::First
     }
 }
 
-// The fault that is made: none of a model where there is none.
-fn made(fault: usize, request: usize) -> usize {
-    if request == MODELS {
-        return match fault {
-            21..=27 => 0,
-            _ => fault,
-        };
-    }
-    fault
-}
-
-// Changes what a fault changes in an input whose request's field begins at a place.
+// Changes what a fault changes in an input whose request's field begins at a place; nothing of a model where there is none.
 fn spoil(out: &mut [u8], fault: usize, request: usize)
     requires { ⌜ (36 ≤ request) × (request ≤ 42383) × (request + 73 ≤ length (now out)) ⌝ }
 {
-    let which = made(fault, request);
     let size = (request - MODELS) as u16;
-    put16(out, changed_at(which, request), changed_to(which, size));
+    if request == MODELS && 21 <= fault && fault <= 27 {
+        return;
+    }
+    put16(out, changed_at(fault, request), changed_to(fault, size));
 }
 
 // Where an input with two faults ends: the earlier cut is the shorter one, and takes a byte too many away.
@@ -108,10 +93,6 @@ fn put_pair(out: &mut [u8], a: usize, b: usize) -> usize
     end_of_pair(a, b, request)
 }
 
-fn id_for(b: usize) -> u32 {
-    if b == UNLISTED { 77_777 } else { 1 }
-}
-
 pub(crate) fn pair(number: usize) -> Seen {
     let call = (number % CALLS) as u8;
     let rest = number / CALLS;
@@ -120,7 +101,8 @@ pub(crate) fn pair(number: usize) -> Seen {
     if !is_pair(a, b) {
         return Seen::NoCase;
     }
+    let id = if b == UNLISTED { 77_777 } else { 1 };
     let mut input = [0u8; SPACE];
     let end = put_pair(&mut input, a, b);
-    judged(prints_part(call, &input, end, id_for(b), number_for(call, a)))
+    judged(prints(call, &input, end, id, number_for(call, a)))
 }

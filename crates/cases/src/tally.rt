@@ -18,6 +18,15 @@ pub(crate) struct Tally {
     pub number: u64,
 }
 
+pub(crate) fn nothing() -> Tally {
+    Tally {
+        cases: 0,
+        different: 0,
+        group: 0,
+        number: 0,
+    }
+}
+
 pub(crate) fn judged(same: bool) -> Seen {
     if same { Seen::Same } else { Seen::Differs }
 }
@@ -43,10 +52,20 @@ pub(crate) fn noted(tally: Tally, group: u64, number: u64, what: Seen) -> Tally 
     }
 }
 
-pub(crate) fn tell_first(tally: Tally) {
+fn tell_first(tally: Tally) {
     io::write_all(STDOUT_FILENO, b"the first, by group and number: ");
     io::print_decimal(STDOUT_FILENO, tally.group);
     io::write_all(STDOUT_FILENO, b" ");
     io::print_decimal(STDOUT_FILENO, tally.number);
     io::write_all(STDOUT_FILENO, b"\n");
+}
+
+pub(crate) fn tell(tally: Tally) {
+    io::print_decimal(STDOUT_FILENO, tally.cases);
+    io::write_all(STDOUT_FILENO, b" cases, ");
+    io::print_decimal(STDOUT_FILENO, tally.different);
+    io::write_all(STDOUT_FILENO, b" differ\n");
+    if tally.different != 0 {
+        tell_first(tally);
+    }
 }

@@ -1,11 +1,14 @@
 // Texts that are owed in full. The example's are document 01's rows (A), (B) and (C).
+ghost use Prim.Native.Nat.{_≤_};
+ghost use lib.ListN.{length};
+use crate::answers::ASK;
 use crate::answers::EACH_ROOM;
+use crate::answers::UNIT;
 use crate::answers::answers;
-use crate::calls::ASK;
-use crate::calls::UNIT;
+use crate::answers::refuses;
 
 // The text of each call for an input and an id, into so much room.
-fn told_in(
+pub(crate) fn told(
     call: u8,
     input: &[u8],
     id: u32,
@@ -23,14 +26,9 @@ fn told_in(
     answers(call, input, id, words, room)
 }
 
-// The same about model 1, into each room.
-pub(crate) fn told(call: u8, input: &[u8], unit: &[u8], ask: &[u8], words: &[u8]) -> bool {
-    told_in(call, input, 1, unit, ask, words, EACH_ROOM)
-}
-
 // The example's, into so much room.
 pub(crate) fn is_example(call: u8, input: &[u8], id: u32, room: usize) -> bool {
-    told_in(
+    told(
         call,
         input,
         id,
@@ -46,4 +44,14 @@ pub(crate) fn is_example(call: u8, input: &[u8], id: u32, room: usize) -> bool {
         b"Price: 100 percent today; it must fall by at least 55.6667 percent, to 44.3333 percent; the request then costs 798 microunits.\n",
         room,
     )
+}
+
+// The line of a refusal, or the example's text where the number is 0, for the first bytes of an input.
+pub(crate) fn prints(call: u8, input: &[u8], end: usize, id: u32, number: u8) -> bool
+    requires { ⌜ end ≤ length (now input) ⌝ }
+{
+    if number == 0 {
+        return is_example(call, &input[0..end], id, EACH_ROOM);
+    }
+    refuses(call, &input[0..end], id, number)
 }

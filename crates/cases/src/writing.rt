@@ -1,16 +1,17 @@
 // What is written: the stored form and the request form, into any room.
 ghost use Prim.Native.Nat.{_+_, _≤_};
 ghost use lib.ListN.{length};
-use crate::answers::settled;
-use crate::bytes::MARK;
+use crate::banks::Models;
+use crate::banks::SPACE;
+use crate::banks::put_input;
 use crate::calls::write_into;
 use crate::calls::write_request_into;
 use crate::example::AFTER_BANK;
 use crate::example::END;
 use crate::example::MODELS;
 use crate::example::example;
-use crate::inputs::Models;
-use crate::inputs::put_input;
+use crate::marks::MARK;
+use crate::marks::settled;
 use crate::tally::Seen;
 use crate::tally::judged;
 
@@ -28,7 +29,7 @@ fn writes(form: &[u8], size: usize, out: &mut [u8], room: usize) -> bool
     settled(told, size_answer(size), out, &form[0..end], room)
 }
 
-// Group 11: the example's policy and bank, into each room.
+// Group 6: the example's policy and bank, into each room.
 pub(crate) fn stored_room(number: usize) -> Seen {
     let room = number % STORED_ROOMS;
     let input = example();
@@ -36,7 +37,7 @@ pub(crate) fn stored_room(number: usize) -> Seen {
     judged(writes(&input, 94, &mut out, room))
 }
 
-// Group 12: the example's request, into each room.
+// Group 7: the example's request, into each room.
 pub(crate) fn request_room(number: usize) -> Seen {
     let room = number % REQUEST_ROOMS;
     let input = example();
@@ -45,12 +46,10 @@ pub(crate) fn request_room(number: usize) -> Seen {
     judged(settled(told, 0, &out, &input[AFTER_BANK..END], room))
 }
 
-// Each length of a bank that group 13 tries, with four rooms.
+// Each length of a bank that group 8 tries, with four rooms.
 pub(crate) const SIZES: usize = 14;
 
 pub(crate) const SIZE_ROOMS: usize = 4;
-
-const SPACE: usize = 65_800;
 
 fn size_of(which: usize) -> usize
     ensures { λ r. ⌜ r ≤ 65612 ⌝ }
@@ -76,7 +75,7 @@ fn size_of(which: usize) -> usize
 // Just enough room, a byte less, none, and more.
 fn room_of(which: usize, size: usize) -> usize
     requires { ⌜ size ≤ 65612 ⌝ }
-    ensures { λ r. ⌜ r ≤ 65800 ⌝ }
+    ensures { λ r. ⌜ r ≤ 66000 ⌝ }
 {
     match which {
         0 => MODELS + size,
@@ -86,10 +85,13 @@ fn room_of(which: usize, size: usize) -> usize
     }
 }
 
-// 1 for a part of a record, then 18 for more than 1,394 records; 0 where the room decides.
+// 1 for a part of a record, then 2 for more than 65,535 records, then 18 for more than 1,394; 0 where the room decides.
 fn size_answer(size: usize) -> u8 {
     if size % 47 != 0 {
         return 1;
+    }
+    if 65_535 < size / 47 {
+        return 2;
     }
     if 1_394 < size / 47 {
         return 18;
@@ -97,18 +99,48 @@ fn size_answer(size: usize) -> u8 {
     0
 }
 
-fn writes_long(form: &[u8], size: usize, room: usize) -> bool
-    requires { ⌜ (36 + size ≤ length (now form)) × (size ≤ 65612) × (room ≤ 65800) ⌝ }
-{
-    let mut out = [MARK; SPACE];
-    writes(form, size, &mut out, room)
-}
-
-// Group 13: banks of other lengths. The bytes are those of an input with as many models.
+// Group 8: banks of other lengths. The bytes are those of an input with as many models.
 pub(crate) fn size(number: usize) -> Seen {
     let size = size_of(number / SIZE_ROOMS);
     let room = room_of(number % SIZE_ROOMS, size);
     let mut input = [0u8; SPACE];
+    let mut out = [MARK; SPACE];
     put_input(&mut input, Models::Alike, size / 47);
-    judged(writes_long(&input, size, room))
+    judged(writes(&input, size, &mut out, room))
+}
+
+// Each length of a bank that group 9 tries, in the rooms none and more than a form has.
+pub(crate) const VAST: usize = 5;
+
+pub(crate) const VAST_ROOMS: usize = 2;
+
+// 65,537 records.
+const VAST_SPACE: usize = 3_080_239;
+
+// The last length that is 18, 65,536 records with a byte less, whole and with a byte more, and a record more.
+fn vast_size(which: usize) -> usize
+    ensures { λ r. ⌜ r ≤ 3080239 ⌝ }
+{
+    match which {
+        0 => 3_080_145,
+        1 => 3_080_191,
+        2 => 3_080_192,
+        3 => 3_080_193,
+        _ => VAST_SPACE,
+    }
+}
+
+// Nothing is read of such a bank, so its bytes are 0. It comes from a call, since the prover writes out an array that it sees made.
+fn vast_bank() -> [u8; VAST_SPACE] {
+    [0u8; VAST_SPACE]
+}
+
+// Group 9: banks around the most records that a bank may have.
+pub(crate) fn vast(number: usize) -> Seen {
+    let size = vast_size(number / VAST_ROOMS);
+    let room = SPACE * (number % VAST_ROOMS);
+    let bank = vast_bank();
+    let mut out = [MARK; SPACE];
+    let told = write_into(&bank[0..size], &mut out, room);
+    judged(settled(told, size_answer(size), &out, b"", room))
 }

@@ -3,7 +3,7 @@
 use Prim.Native.Nat.{ℕ}
 use mathlib.Core.List.{List}
 use mathlib.Core.Path.{_≡_, sym, _∙_}
-use Rattle.rules.specs.Numbers.{toldOutcome, toldTrusted}
+use Rattle.rules.specs.Refused.{toldOutcome, toldTrusted}
 use Rattle.rules.specs.Validate.{validateOf}
 use Rattle.rules.specs.Trust.{trustOf, trustBank}
 use Rattle.rules.specs.declared.refusal.Outcome.{Outcome}

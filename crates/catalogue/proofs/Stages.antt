@@ -1,11 +1,11 @@
 -- Tests one after the other: those passed hand nothing back, and the first that refuses gives the number. Assumes nothing.
 use mathlib.Core.Path.{_≡_, refl, sym, ap, _∙_}
 use mathlib.Core.List.{[], _∷_, _++_}
-use Rattle.rules.specs.Numbers.{Faults, toldRefusal}
+use Rattle.rules.specs.Refused.{Faults, toldRefusal}
 use Rattle.rules.specs.declared.refusal.Refusal.{Refusal}
 use Rattle.rules.specs.declared.refusal.Outcome.{Outcome}
 use Rattle.rules.specs.declared.refusal.Outcome.the-variants.{Refused}
-use Rattle.kernel.specs.Refuse.{leading, toldLeading}
+use Rattle.outset.specs.Refuse.{leading, toldLeading}
 
 -- A TEST THAT REFUSES leads, whatever is tested after it
 pub stopped : {o : Outcome} {r : Refusal} (fs : Faults) → o ≡ Refused r → toldLeading o ≡ leading fs → toldLeading (Refused r) ≡ leading fs

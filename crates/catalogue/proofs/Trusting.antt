@@ -5,15 +5,15 @@ use mathlib.Core.List.{List, [], _∷_, _++_, List·Permᴰ, Permᴰ·refl}
 use lib.ListN.{length}
 use Rattle.rules.specs.Limits.{recordBytes}
 use Rattle.rules.specs.Records.{listedOf}
-use Rattle.rules.specs.Numbers.{Faults, lengthFaults, toldRefusal, toldOutcome}
+use Rattle.rules.specs.Refused.{Faults, lengthFaults, toldRefusal, toldOutcome}
 use Rattle.rules.specs.Validate.{catalogFaults}
 use Rattle.rules.specs.Trust.{idOf, reservedFaults, flagFaults, earlyFaults, orderedOf, orderedUnless, trustOf, trustBank}
 use Rattle.rules.specs.declared.refusal.Refusal.{Refusal}
 use Rattle.rules.specs.declared.refusal.Outcome.{Outcome}
 use Rattle.rules.specs.declared.refusal.Outcome.the-variants.{Answered, Refused}
 use Rattle.rules.specs.declared.records.PolicySnapshot.{PolicySnapshot}
-use Rattle.kernel.specs.Refuse.{leading, toldLeading}
-use Rattle.kernel.proofs.Refusals.{leading-told, none-told}
+use Rattle.outset.specs.Refuse.{leading, toldLeading}
+use Rattle.outset.proofs.Refusals.{leading-told, none-told}
 use Rattle.sorting.specs.Keyed.{Ascending, ofKey}
 use Rattle.sorting.specs.Bytes.{recordsOf}
 use Rattle.sorting.proofs.Ordered.{same-length, same-records, ids-ascending, equal-ids-in-old-order, order-again}

@@ -7,7 +7,7 @@ use mathlib.Core.List.{List, [], _∷_, _++_}
 use lib.ListN.{length, getD, take, drop, length-map, List·getD-map}
 use lib.Seq.{take-suc, drop-cons, drop-length, length-take-le, getD-take}
 use Rattle.rules.specs.Records.{Listed, listed, listedOf, modelOf, modelAt, recordPart}
-use Rattle.rules.specs.Numbers.{Faults, fault, modelFault}
+use Rattle.rules.specs.Refused.{Faults, fault, modelFault}
 use Rattle.rules.specs.Validate.{emptyFaults, repeatFaults, recordFaults, recordsFaults, offFaults}
 use Rattle.rules.specs.Trust.{reservedFaults, flagFaults, idOf}
 use Rattle.rules.specs.declared.records.KernelModel.{KernelModel}

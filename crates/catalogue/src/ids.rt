@@ -5,7 +5,7 @@ ghost use lib.ListN.{length};
 ghost use Rattle.rules.specs.Limits.{recordBytes};
 ghost use Rattle.rules.specs.Records.{listedOf, modelAt};
 ghost use Rattle.rules.specs.Validate.{repeatFaults};
-ghost use Rattle.kernel.specs.Refuse.{leading, toldLeading};
+ghost use Rattle.outset.specs.Refuse.{leading, toldLeading};
 ghost use Rattle.catalogue.specs.Ids.{idsOf, earlierIds, risesFrom, Looked};
 use rules::Outcome;
 use rules::Refusal;

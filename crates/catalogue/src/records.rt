@@ -3,7 +3,7 @@ ghost use mathlib.Core.Path.{_≡_};
 ghost use mathlib.Core.List.{[], _++_};
 ghost use Rattle.rules.specs.Records.{listedOf, modelAt};
 ghost use Rattle.rules.specs.Validate.{providerFaults, modelFaults, recordFaults, recordsFaults};
-ghost use Rattle.kernel.specs.Refuse.{leading, toldLeading};
+ghost use Rattle.outset.specs.Refuse.{leading, toldLeading};
 ghost use Rattle.catalogue.specs.Ids.{earlierIds, Looked};
 use crate::ids::ids_rise;
 use crate::ids::repeat_outcome;

@@ -1,12 +1,12 @@
 // Validation of a policy with its catalogue: 10, 11, the records, 15.
 ghost use mathlib.Core.Path.{_≡_};
 ghost use Rattle.rules.specs.Records.{listedOf};
-ghost use Rattle.rules.specs.Numbers.{toldOutcome};
+ghost use Rattle.rules.specs.Refused.{toldOutcome};
 ghost use Rattle.rules.specs.Validate.{policyFaults, offFaults, catalogFaults, validateOf};
-ghost use Rattle.kernel.specs.Refuse.{leading, toldLeading};
+ghost use Rattle.outset.specs.Refuse.{leading, toldLeading};
 use crate::records::records_outcome;
 use bank::model_at;
-use kernel::refuse::bank_outcome;
+use outset::refuse::bank_outcome;
 use rules::Outcome;
 use rules::PolicySnapshot;
 use rules::Refusal;

@@ -7,8 +7,7 @@ use Rattle.rules.specs.Win.{whatWouldWinOf}
 use Rattle.rules.specs.Margin.{decisionMarginOf}
 use Rattle.rules.specs.declared.records.KernelInput.{KernelInput}
 use Rattle.rules.specs.declared.records.PolicySnapshot.{PolicySnapshot}
-use Rattle.rules.proofs.Told.{one-boundaries}
-use Rattle.kernel.proofs.Answers.{Same}
+use Rattle.rules.proofs.Told.{Same, one-boundaries}
 
 module _ (p : PolicySnapshot) (q : KernelInput) (bank : List ℕ) where
   pub one-what-would-win : (id : ℕ) → Same toldBoundaries (whatWouldWinOf p q bank id)

@@ -3,13 +3,10 @@ use Prim.Native.Nat.{ℕ}
 use mathlib.Core.Path.{_≡_, refl, sym, ap, ap₂, _∙_}
 use mathlib.Core.Bool.{Bool}
 use mathlib.Core.List.{List, [], _∷_}
-use mathlib.Core.Logic.{⊎-elim}
-use mathlib.Core.Option.{Option, none, some}
-use borrow.Author.Tests.{eqb-false}
-use denote.Enum.Declared.{tagOf}
-use types.Run.{OneOf}
+use mathlib.Core.Option.{some}
 use Rattle.rules.specs.Records.{listedOf}
-use Rattle.rules.specs.Numbers.{Faults, bankFaults, noFault, answered, toldRefusal, toldFound, Decision, Boundary}
+use Rattle.rules.specs.Refused.{Faults, bankFaults, noFault, toldRefusal}
+use Rattle.rules.specs.Numbers.{Decision, Boundary}
 use Rattle.rules.specs.Listing.{firstListed, placeOf}
 use Rattle.rules.specs.Levers.{Sought, noSearch, boundaryOf, boundaryRefused, boundaryUnless}
 use Rattle.rules.specs.declared.records.KernelInput.{KernelInput}
@@ -17,24 +14,12 @@ use Rattle.rules.specs.declared.records.PolicySnapshot.{PolicySnapshot}
 use Rattle.rules.specs.declared.refusal.Refusal.{Refusal}
 use Rattle.rules.specs.declared.refusal.Outcome.{Outcome}
 use Rattle.rules.specs.declared.refusal.Outcome.the-variants as outcome
-use Rattle.rules.specs.declared.decision.Found.{Found}
-use Rattle.rules.specs.declared.decision.Found.the-variants.{Refused, At, Nowhere}
-use Rattle.rules.proofs.decision.Found.{the-type}
-use Rattle.kernel.proofs.Refusals.{none-told}
-use Rattle.kernel.specs.Refuse.{leading, toldLeading}
+use Rattle.rules.specs.declared.decision.Found.the-variants.{Refused}
+use Rattle.outset.proofs.Refusals.{none-told}
+use Rattle.outset.specs.Refuse.{leading, toldLeading}
 use Rattle.searches.specs.Asked.{askedOf, Stands}
 use Rattle.counterfactual.specs.Levers.{Room, emptyRoom, roomOf, boundaryWith}
 use Rattle.searches.specs.declared.pass.Asked.{Asked}
-
--- an answer without a place found none
-pub without : (f : Found) (o : Option ℕ) → OneOf (0 ∷ 2 ∷ []) (tagOf the-type f) → toldFound f ≡ answered o → o ≡ none
-without (Refused r) o k e = cc
-without (At place) o k e = absurd (⊎-elim (eqb-false 1 0 refl) (eqb-false 1 2 refl) k)
-without Nowhere o k e = cc
-
--- and one with a place found that
-pub with-place : {f : Found} {place : ℕ} {o : Option ℕ} → f ≡ At place → toldFound f ≡ answered o → o ≡ some place
-with-place e h = let k = sym (ap toldFound e) ∙ h in cc
 
 -- Tests that hand nothing back leave the answer, and those that hand a number back refuse it
 pub boundary-passed : {o : Outcome} (fs : Faults) (b : Boundary) → o ≡ outcome.Answered → toldLeading o ≡ leading fs → boundaryUnless fs b ≡ b

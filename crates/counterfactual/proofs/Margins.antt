@@ -5,14 +5,15 @@ use mathlib.Core.Bool.{true, false}
 use mathlib.Core.List.{List}
 use mathlib.Core.Option.{none, some}
 use Rattle.rules.specs.Records.{listedOf}
-use Rattle.rules.specs.Numbers.{fault, Decision, isRejection}
+use Rattle.rules.specs.Refused.{fault}
+use Rattle.rules.specs.Numbers.{Decision, isRejection}
 use Rattle.rules.specs.Listing.{firstListed, placeOf}
 use Rattle.rules.specs.Decide.{decisionOf}
 use Rattle.rules.specs.Levers.{boundaryOf, boundaryRefused}
 use Rattle.rules.specs.Margin.{marginLevers, marginIfListed, marginFor, marginIn}
 use Rattle.rules.specs.declared.records.KernelInput.{KernelInput}
 use Rattle.rules.specs.declared.records.PolicySnapshot.{PolicySnapshot}
-use Rattle.kernel.proofs.Finding.{found-at, found-nothing}
+use Rattle.outset.proofs.Finding.{found-at, found-nothing}
 use Rattle.searches.specs.Asked.{askedOf, questionOf}
 use Rattle.searches.specs.declared.pass.Asked.{Asked}
 

@@ -1,20 +1,17 @@
 -- What noting a lever adds to a room, and four levers noted one after the other. Assumes nothing.
 use Prim.Native.Nat.{ℕ, _+_, _≤_}
 use native.Mathlib.Omega.{arith}
-use mathlib.Core.Path.{_≡_, refl, ap, ap₂, _∙_}
+use mathlib.Core.Path.{_≡_, ap, ap₂, _∙_}
 use lib.ListN.{length}
 use Rattle.rules.specs.Levers.{Question, Sought, plain, priced, andThen}
 use Rattle.rules.specs.declared.boundary.Bound.{Bound}
 use Rattle.rules.specs.declared.boundary.Bound.the-variants.{At, Nothing}
 use Rattle.rules.specs.Halving.{passesOf}
+use Rattle.rules.proofs.Halvings.{plain-passes}
 use Rattle.counterfactual.specs.Levers.{Room, emptyRoom, joined, roomOf}
 use Rattle.counterfactual.proofs.Rooms.{joined-passes, four-joined}
 
 -- ---- its passes
-
-plain-passes : (lever current : ℕ) (r : Bound) → plain lever current r .passes ≡ passesOf r
-plain-passes lever current (At b n) = refl
-plain-passes lever current (Nothing n) = refl
 
 priced-passes : (a : Question) (r : Bound) → priced a r .passes ≤ passesOf r + 1
 priced-passes a (At b n) = omega arith

@@ -1,5 +1,5 @@
 -- What would win, case by case. Assumes nothing.
-use Prim.Native.Nat.{ℕ, _<_}
+use Prim.Native.Nat.{ℕ}
 use native.Mathlib.Omega.{arith}
 use mathlib.Core.Path.{_≡_, sym, ap, ap₂, _∙_}
 use mathlib.Core.Bool.{Bool, true, false}
@@ -8,7 +8,8 @@ use mathlib.Core.Option.{none, some}
 use borrow.Author.Tests.{eq-eqb, ne-eqb}
 use Rattle.rules.specs.Choice.{below}
 use Rattle.rules.specs.Records.{listedOf}
-use Rattle.rules.specs.Numbers.{fault, Decision, Entry, reasonNo}
+use Rattle.rules.specs.Refused.{fault}
+use Rattle.rules.specs.Numbers.{Decision, Entry, reasonNo}
 use Rattle.rules.specs.Listing.{firstListed, placeOf}
 use Rattle.rules.specs.Decide.{stoppedBy, decisionOf}
 use Rattle.rules.specs.Levers.{Question, wins, selects, entry, noSearch, boundaryOf, boundaryRefused}
@@ -17,10 +18,10 @@ use Rattle.rules.specs.declared.records.KernelInput.{KernelInput}
 use Rattle.rules.specs.declared.records.PolicySnapshot.{PolicySnapshot}
 use Rattle.rules.specs.declared.decision.KernelReason.{KernelReason}
 use Rattle.rules.proofs.Reasons.{reason-some}
-use Rattle.kernel.specs.Stop.{toldStop}
-use Rattle.kernel.specs.declared.stop.Stop.{Stop}
-use Rattle.kernel.specs.declared.stop.Stop.the-variants.{Open, By}
-use Rattle.kernel.proofs.Finding.{found-at, found-nothing}
+use Rattle.deciding.specs.Stop.{toldStop}
+use Rattle.deciding.specs.declared.stop.Stop.{Stop}
+use Rattle.deciding.specs.declared.stop.Stop.the-variants.{Open, By}
+use Rattle.outset.proofs.Finding.{found-at, found-nothing}
 use Rattle.searches.specs.Asked.{askedOf, questionOf}
 use Rattle.searches.specs.declared.pass.Asked.{Asked}
 use Rattle.counterfactual.specs.Levers.{Room, emptyRoom, pushed, roomOf}

@@ -4,7 +4,8 @@ use mathlib.Core.Bool.{Bool}
 use mathlib.Core.List.{List, [], _∷_, _++_, map}
 use lib.ListN.{length, set, replicate}
 use Rattle.rules.specs.Choice.{below}
-use Rattle.rules.specs.Numbers.{Fault, Decision, Entry, toldEntry, Boundary}
+use Rattle.rules.specs.Refused.{Fault}
+use Rattle.rules.specs.Numbers.{Decision, Entry, toldEntry, Boundary}
 use Rattle.rules.specs.Levers.{Sought, noEntry}
 use Rattle.rules.specs.declared.boundary.Levers.{Levers}
 

@@ -1,6 +1,7 @@
 // The answer of both calls, by its parts.
 ghost use mathlib.Core.Path.{_≡_};
-ghost use Rattle.rules.specs.Numbers.{noFault, toldRefusal, toldDecision, toldBoundaries};
+ghost use Rattle.rules.specs.Refused.{noFault, toldRefusal};
+ghost use Rattle.rules.specs.Numbers.{toldDecision, toldBoundaries};
 ghost use Rattle.rules.specs.Levers.{boundaryRefused};
 ghost use Rattle.counterfactual.specs.Levers.{toldLevers, boundaryWith};
 use crate::levers::no_levers;

@@ -10,7 +10,8 @@ use Rattle.rules.specs.Limits.{recordBytes, policyBytes, requestBytes}
 use Rattle.rules.specs.Choice.{below}
 use Rattle.rules.specs.Bytes.{filled, bytesOf}
 use Rattle.rules.specs.Records.{policyOf, inputOf, recordsIn, recordPart}
-use Rattle.rules.specs.Numbers.{Fault, Faults, fault, firstFault, bankFaults, roomFaults, listUnless, Answer, refused, answered, unless, StoredPolicy}
+use Rattle.rules.specs.Refused.{Fault, Faults, fault, firstFault, bankFaults, roomFaults, listUnless, Answer, refused, answered, unless}
+use Rattle.rules.specs.Numbers.{StoredPolicy}
 use Rattle.rules.specs.Listing.{readingFaults, partUnless, recordOf}
 use Rattle.rules.specs.Stored.{bodyOf, formFaults, storedForm, writeFaults, writeStoredOf, writeStoredBuffer, storedPolicy, storedBank, readFaults, readStoredOf, readStoredBuffer, requestForm, writeRequestOf, writeRequestBuffer, readRequestOf}
 use Rattle.rules.specs.declared.records.KernelInput.{KernelInput}
@@ -19,11 +20,11 @@ use Rattle.rules.proofs.Choices.{below-yes, below-no}
 use Rattle.endian.specs.Put.{patched}
 use Rattle.endian.proofs.Stored.{patch-join}
 use Rattle.splice.proofs.Pieces.{patched-start}
-use Rattle.boundary.specs.Boundary.{wordOf, lentFaults}
+use Rattle.opening.specs.Opening.{wordOf, wordSize, lentFaults}
 use Rattle.rules.proofs.Faults.{none-after, none-first}
-use Rattle.boundary.proofs.Handed.{Told}
-use Rattle.delivery.specs.Delivery.{wordSize, recordAtFaults, writeStoredFaults, storedFormOf, writeRequestFaults, requestFormOf, storedSize, readStoredFaults, roomlessFaults, readRequestFaults}
-use Rattle.delivery.proofs.Wordings.{size-same}
+use Rattle.opening.proofs.Handed.{Told, apart}
+use Rattle.opening.proofs.Wordings.{size-same}
+use Rattle.delivery.specs.Delivery.{recordAtFaults, writeStoredFaults, storedFormOf, writeRequestFaults, requestFormOf, storedSize, readStoredFaults, roomlessFaults, readRequestFaults}
 
 -- ---- a record's offset
 
@@ -65,9 +66,6 @@ unfolding readRequestOf
 request-told form h = record { is = h }
 
 -- Tests that are joined: a fault of the first ones counts, and later ones that hand nothing back change nothing
-apart : {A : Type 0} (f : Fault) (a : A) → refused f ≡ answered a → ⊥
-apart f a e = let z : _≡_ {A = ℕ} 0 1 = cc in omega arith
-
 pub told-so : {A : Type 0} {t : Answer A} {fs : Faults} {a : A} {f : Fault} {w : ℕ} (gs : Faults) (new list : List ℕ) → Told t fs a → t ≡ refused f → w ≡ wordOf f
     → (w ≡ wordOf (firstFault (fs ++ gs))) × (list ≡ listUnless (fs ++ gs) new list)
 told-so {A} {t} {fs} {a} {f} {w} gs new list told e h = go fs (sym e ∙ told .is)

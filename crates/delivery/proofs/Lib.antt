@@ -1,4 +1,3 @@
 -- Laws on words and buffers that the proofs of these functions cite.
-pub mod Wordings
+pub mod Places
 pub mod Answering
-pub mod Headings

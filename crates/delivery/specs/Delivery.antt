@@ -1,19 +1,15 @@
--- What the exported functions hand over besides decisions: for each its refusals in their order, and the bytes that it writes where it answers.
+-- What the exported functions hand over besides decisions and texts: for each its refusals in their order, and the bytes that it writes where it answers.
 -- A function's word is `wordOf` of its first fault, and each of its buffers is `listUnless` of its faults and bytes.
 use Prim.Native.Nat.{ℕ, _+_, _*_}
 use mathlib.Core.List.{List, [], _∷_, _++_}
 use lib.ListN.{length}
 use Rattle.rules.specs.Limits.{recordBytes, requestBytes, policyBytes}
-use Rattle.rules.specs.Bytes.{bytesOf, filled}
+use Rattle.rules.specs.Bytes.{bytesOf}
 use Rattle.rules.specs.Records.{inputOf, inputBytes, policyOf, policyInBytes}
-use Rattle.rules.specs.Numbers.{Faults, fault, roomFaults, Answer, refused, answered}
+use Rattle.rules.specs.Refused.{Faults, fault, roomFaults}
 use Rattle.rules.specs.Listing.{readingFaults}
 use Rattle.rules.specs.Stored.{bodyOf, formFaults, storedForm, writeFaults, storedPolicy, storedBank, readFaults, requestForm}
-use Rattle.boundary.specs.Boundary.{wordOf, sizeFaults, lentFaults}
-
--- The bytes of an offset and of a length: a u64
-abbrev pub wordSize : ℕ
-wordSize = 8
+use Rattle.opening.specs.Opening.{wordSize, sizeFaults, lentFaults}
 
 -- ---- `volankizo_record_at`
 
@@ -68,22 +64,3 @@ readRequestFaults form room = formFaults (3 ∷ []) form ++ roomFaults requestBy
 
 abbrev pub requestIn : List ℕ → List ℕ
 requestIn form = inputBytes (inputOf (bodyOf form))
-
--- ---- `volankizo_unit_text`, `volankizo_ask_text` and `volankizo_ask_words`
-
--- 4
-abbrev pub textFaults : List ℕ → ℕ → Faults
-textFaults text room = roomFaults (wordSize + length text) room
-
--- A text with its length before it
-abbrev pub textBytes : List ℕ → List ℕ
-textBytes text = bytesOf wordSize (length text) ++ text
-
--- What is told of a text that was printed after the room for its length: it is refused for want of room alone
-abbrev pub textWord : Answer ℕ → ℕ
-textWord (refused f) = wordOf (fault 4)
-textWord (answered n) = 0
-
-abbrev pub headed : Answer ℕ → List ℕ → List ℕ
-headed (refused f) out = out
-headed (answered n) out = filled (bytesOf wordSize n) out

@@ -1,10 +1,10 @@
 // The stored form of a policy with its bank, and the request form, with policy and request as bytes.
-use bank::input_bytes;
 use bank::input_of;
-use bank::policy_bytes;
 use bank::policy_of;
-use boundary::refusal_word;
 use endian::put64;
+use opening::refusal_word;
+use packing::input_bytes;
+use packing::policy_bytes;
 use rules::Outcome;
 use rules::Refusal;
 use rules::RequestRead;
@@ -22,9 +22,9 @@ use stored::write_request;
 use stored::write_stored;
 ghost use mathlib.Core.Path.{_≡_};
 ghost use lib.ListN.{length};
-ghost use Rattle.rules.specs.Numbers.{firstFault, listUnless};
+ghost use Rattle.rules.specs.Refused.{firstFault, listUnless};
 ghost use Rattle.rules.specs.Stored.{storedBank};
-ghost use Rattle.boundary.specs.Boundary.{wordOf};
+ghost use Rattle.opening.specs.Opening.{wordOf};
 ghost use Rattle.delivery.specs.Delivery.{writeStoredFaults, storedFormOf, writeRequestFaults, requestFormOf, readStoredFaults, storedBytes, roomlessFaults, readRequestFaults, requestIn};
 
 // The bytes of a policy, and of the length of its bank.

@@ -1,14 +1,10 @@
-// What the exported functions hand over besides decisions: a record's offset, stored and request forms, printed texts. Each function takes
-// the very slices of an exported one and answers its word: 0, or the refusal's.
+// What the exported functions hand over besides decisions and texts: a record's offset, stored and request forms. Each function takes the very
+// slices of an exported one and answers its word: 0, or the refusal's.
 pub mod forms;
 pub mod offset;
-pub mod texts;
 
 pub use forms::request_delivered;
 pub use forms::request_form_delivered;
 pub use forms::stored_delivered;
 pub use forms::stored_form_delivered;
 pub use offset::offset_delivered;
-pub use texts::ask_text_delivered;
-pub use texts::ask_words_delivered;
-pub use texts::unit_text_delivered;

@@ -1,14 +1,14 @@
 // Where a record of a bank begins.
-use boundary::opening::lent_outcome;
-use boundary::refusal_word;
 use endian::put64;
+use opening::lent_outcome;
+use opening::refusal_word;
 use rules::Outcome;
 use rules::Refusal;
 use rules::limits::RECORD_BYTES;
 ghost use mathlib.Core.Path.{_≡_};
 ghost use lib.ListN.{length};
-ghost use Rattle.rules.specs.Numbers.{firstFault, listUnless};
-ghost use Rattle.boundary.specs.Boundary.{wordOf};
+ghost use Rattle.rules.specs.Refused.{firstFault, listUnless};
+ghost use Rattle.opening.specs.Opening.{wordOf};
 ghost use Rattle.delivery.specs.Delivery.{recordAtFaults, offsetBytes};
 
 // An offset's bytes.

@@ -9,7 +9,8 @@ use native.Mathlib.Omega.{arith}
 use Rattle.rules.specs.Choice.{below, atLeast, equal, lower, higher}
 use Rattle.rules.specs.Bytes.{number}
 use Rattle.rules.specs.Records.{Listed, listed, modelOf, modelAt, inputOf, policyOf, listedOf}
-use Rattle.rules.specs.Numbers.{lengthFaults, bankFaults, isRejection, Boundary}
+use Rattle.rules.specs.Refused.{lengthFaults, bankFaults}
+use Rattle.rules.specs.Numbers.{isRejection, Boundary}
 use Rattle.rules.specs.Gates.{gateOf}
 use Rattle.rules.specs.Price.{billed, costOf, scaledPrice}
 use Rattle.rules.specs.Utility.{shareOf, qualityTermOf, riskTermOf, latencyTermOf, exactUtilityOf, utilityOf}

@@ -11,7 +11,8 @@ use lib.ListN.{length, replicate}
 use lib.Seq.{take-append-seam}
 use lib.Dec.{eqb}
 use Rattle.rules.specs.Choice.{equal}
-use Rattle.rules.specs.Numbers.{noFault, Entry, Decision, Boundary}
+use Rattle.rules.specs.Refused.{noFault}
+use Rattle.rules.specs.Numbers.{Entry, Decision, Boundary}
 use Rattle.rules.specs.Halving.{Side, Lowest, firstTried, searchOf, farEnd, searchAfterFarEnd}
 use Rattle.rules.specs.Levers.{Question, Sought, entry, plain, priced, andThen, boundaryOf, noEntry}
 use Rattle.rules.specs.declared.boundary.Bound.{Bound}

@@ -61,10 +61,6 @@ held-up (negsuc m) (negsuc n) h = omega arith
 
 -- ---- the tests
 
-pub at-most-itself : (x : ℤ) → AtMost x x
-at-most-itself (pos n) = omega arith
-at-most-itself (negsuc n) = omega arith
-
 not-above : (x y : ℤ) → AtMost x y → ltZ y x ≡ false
 not-above (pos m) (pos n) h = le-ltb n m h
 not-above (pos m) (negsuc n) h = absurd h

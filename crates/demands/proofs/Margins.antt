@@ -11,7 +11,8 @@ use borrow.Author.Tests.{eq-eqb, ne-eqb}
 use Rattle.rules.specs.Limits.{ppm, maxU32, maxPriceScale}
 use Rattle.rules.specs.Choice.{equal}
 use Rattle.rules.specs.Records.{Listed, listedOf}
-use Rattle.rules.specs.Numbers.{noFault, bankFaults, isRejection}
+use Rattle.rules.specs.Refused.{noFault, bankFaults}
+use Rattle.rules.specs.Numbers.{isRejection}
 use Rattle.rules.specs.Decide.{stoppedBy, decisionOf}
 use Rattle.rules.specs.Listing.{firstListed}
 use Rattle.rules.specs.Halving.{Lowest, Highest, searchOf, searchAfterFarEnd}

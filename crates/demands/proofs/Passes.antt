@@ -10,17 +10,19 @@ use borrow.Author.Tests.{ne-eqb}
 use lib.Dec.{eqb}
 use Rattle.rules.specs.Choice.{pick}
 use Rattle.rules.specs.Records.{Listed, listedOf}
-use Rattle.rules.specs.Numbers.{Fault, bankFaults, Decision, Boundary, isRejection, fault}
+use Rattle.rules.specs.Refused.{Fault, bankFaults, fault}
+use Rattle.rules.specs.Numbers.{Decision, Boundary, isRejection}
 use Rattle.rules.specs.Decide.{stoppedBy, decisionOf}
 use Rattle.rules.specs.Listing.{firstListed}
 use Rattle.rules.specs.Halving.{Lowest, Highest, passesOf}
-use Rattle.rules.specs.Levers.{Question, selects, wins, plain, priced, noSearch, boundaryOf, boundaryRefused, boundaryUnless}
+use Rattle.rules.specs.Levers.{Question, selects, wins, priced, noSearch, boundaryOf, boundaryRefused, boundaryUnless}
 use Rattle.rules.specs.Win.{ifOn, winLevers, winSearch, winFor, winIfListed, winIn, whatWouldWinOf}
 use Rattle.rules.specs.Margin.{marginLevers, marginIfListed, marginFor, marginIn, decisionMarginOf}
 use Rattle.rules.specs.declared.boundary.Bound.{Bound}
 use Rattle.rules.specs.declared.boundary.Bound.the-variants.{At, Nothing}
 use Rattle.rules.specs.declared.records.KernelInput.{KernelInput}
 use Rattle.rules.specs.declared.records.PolicySnapshot.{PolicySnapshot}
+use Rattle.rules.proofs.Halvings.{plain-passes}
 use Rattle.demands.specs.Lists.{Each}
 use Rattle.demands.specs.Demand3.{winQuality, winLatency, winPrice, winCeiling, marginQuality, marginLatency, marginPrice, marginCeiling, question, Unselected, SwitchedOn, passesWithCost, halvingIn, halvingAfterFarEnd, winPasses, marginPasses, mostToWin, mostForMargin, mostForMarginWithin, AreBytes, Within}
 use Rattle.demands.proofs.Exact.{search-short, margin-short}
@@ -28,10 +30,6 @@ use Rattle.demands.proofs.Winning.{searched}
 use Rattle.demands.proofs.Widest.{bytes-narrow, first-of}
 
 -- ---- the passes of four levers are those of their searches
-
-plain-passes : (lever current : ℕ) (r : Bound) → plain lever current r .passes ≡ passesOf r
-plain-passes lever current (At b n) = refl
-plain-passes lever current (Nothing n) = refl
 
 priced-passes : (a : Question) (r : Bound) → priced a r .passes ≡ passesWithCost r
 priced-passes a (At b n) = refl

@@ -12,7 +12,8 @@ use lib.ListN.{replicate}
 use Rattle.rules.specs.Choice.{below, atLeast, equal, lower, higher}
 use Rattle.rules.specs.Bytes.{number}
 use Rattle.rules.specs.Records.{Listed, listed, modelOf, modelAt, inputOf, policyOf, listedOf}
-use Rattle.rules.specs.Numbers.{lengthFaults, isRejection}
+use Rattle.rules.specs.Refused.{lengthFaults}
+use Rattle.rules.specs.Numbers.{isRejection}
 use Rattle.rules.specs.Gates.{gateOf}
 use Rattle.rules.specs.Price.{billed, costOf, scaledPrice}
 use Rattle.rules.specs.Utility.{shareOf, qualityTermOf, riskTermOf, latencyTermOf, exactUtilityOf, utilityOf}

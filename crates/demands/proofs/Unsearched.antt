@@ -9,7 +9,8 @@ use native.Mathlib.Omega.{arith}
 use borrow.Author.Tests.{eq-eqb, ne-eqb}
 use lib.ListN.{length}
 use Rattle.rules.specs.Records.{Listed, listedOf}
-use Rattle.rules.specs.Numbers.{bankFaults, isRejection, Boundary}
+use Rattle.rules.specs.Refused.{bankFaults}
+use Rattle.rules.specs.Numbers.{isRejection, Boundary}
 use Rattle.rules.specs.Decide.{stoppedBy, decisionOf}
 use Rattle.rules.specs.Listing.{firstListed}
 use Rattle.rules.specs.Levers.{Question, selects, decisionAt, wins, boundaryOf}

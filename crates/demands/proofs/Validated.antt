@@ -1,17 +1,17 @@
 -- A bank that validation accepts is sound: what demand 3 asks of a bank holds for it. Assumes nothing.
-use Prim.Native.Nat.{ℕ, _%_, _≤_, _<_}
+use Prim.Native.Nat.{ℕ, _%_, _<_}
 use mathlib.Core.Path.{_≡_, refl, ap}
 use mathlib.Core.Bool.{Bool, true, false, cond}
 use mathlib.Core.List.{List, [], _∷_, _++_}
 use native.Mathlib.Omega.{arith}
-use borrow.Author.Tests.{ltb-false, eqb-false}
+use borrow.Author.Tests.{eqb-false}
 use lib.Dec.{eqb, ltb}
 use lib.ListN.{length}
 use Rattle.rules.specs.Limits.{maxBps, maxRiskMultiplier, maxProviderId, maxCatalogModels, recordBytes}
 use Rattle.rules.specs.Choice.{below, equal}
 use Rattle.rules.specs.Records.{Listed, listedOf, recordsIn}
 use Rattle.rules.proofs.Faults.{none-first, none-after, below-none}
-use Rattle.rules.specs.Numbers.{Fault, Faults, fault, noFault, policyFault, modelFault, firstFault, lengthFaults, bankFaults}
+use Rattle.rules.specs.Refused.{Fault, Faults, fault, noFault, policyFault, modelFault, firstFault, lengthFaults, bankFaults}
 use Rattle.rules.specs.Validate.{policyFaults, emptyFaults, repeatFaults, providerFaults, rangeFaults, modelFaults, recordFaults, recordsFaults, offFaults, catalogFaults, validateOf}
 use Rattle.rules.specs.declared.records.KernelModel.{KernelModel}
 use Rattle.rules.specs.declared.records.PolicySnapshot.{PolicySnapshot}

@@ -6,7 +6,7 @@ use mathlib.Core.List.{List, []}
 use borrow.Author.Tests.{ne-eqb}
 use Rattle.rules.specs.Limits.{maxBps, ppm}
 use Rattle.rules.specs.Records.{Listed, listedOf}
-use Rattle.rules.specs.Numbers.{noFault, bankFaults}
+use Rattle.rules.specs.Refused.{noFault, bankFaults}
 use Rattle.rules.specs.Decide.{decisionOf}
 use Rattle.rules.specs.Halving.{Lowest, Highest, searchOf}
 use Rattle.rules.specs.Levers.{wins, boundaryOf}

@@ -8,7 +8,8 @@ use mathlib.Core.Option.{none, some}
 use lib.ListN.{take}
 use Rattle.rules.specs.Choice.{equal}
 use Rattle.rules.specs.Records.{Listed, listedOf}
-use Rattle.rules.specs.Numbers.{noFault, bankFaults, Entry, Boundary}
+use Rattle.rules.specs.Refused.{noFault, bankFaults}
+use Rattle.rules.specs.Numbers.{Entry, Boundary}
 use Rattle.rules.specs.Decide.{stoppedBy, decisionOf}
 use Rattle.rules.specs.Listing.{firstListed}
 use Rattle.rules.specs.Halving.{Side, Lowest, Highest, searchOf, searchAfterFarEnd, passesOf}

@@ -6,7 +6,7 @@ ghost use lib.ListN.{length};
 ghost use mir.Syntax.{w64};
 ghost use mir.Val.{toZ, ofZ};
 ghost use Rattle.rules.specs.Bytes.{number, bytesOf, field, valueOf};
-ghost use Rattle.rules.specs.Wide.{val, wideOf};
+ghost use Rattle.rules.specs.Wide.{val};
 ghost use Rattle.endian.specs.Put.{patched};
 use rules::Wide;
 
@@ -74,16 +74,6 @@ pub fn u64_at(s: &[u8], at: usize) -> u64
         s[at + 6],
         s[at + 7],
     )
-}
-
-// The number of sixteen bytes at a position, the low limb first.
-pub fn wide_at(s: &[u8], at: usize) -> Wide
-    requires { ⌜ at + 16 ≤ length (now s) ⌝ }
-    ensures { λ r. ⌜ r ≡ wideOf (valueOf (now (s .entry)) (field at 16)) ⌝ }
-{
-    let lo = u64_at(s, at);
-    let hi = u64_at(s, at + 8);
-    Wide { hi: hi, lo: lo }
 }
 
 // Writes a number into two bytes at a position.

@@ -1,19 +1,19 @@
 -- ANY TWO PERMITTED ANSWERS ARE EQUAL, of `explain` with its list, and of `next_eligible`. Assumes nothing.
 use Prim.Native.Nat.{ℕ, _<_}
 use native.Mathlib.Omega.{arith}
-use mathlib.Core.List.{List, [], _∷_, _++_, append-nil}
-use mathlib.Core.Path.{_≡_, refl, sym, ap, _∙_}
+use mathlib.Core.List.{List, [], append-nil}
+use mathlib.Core.Path.{_≡_, sym, ap, _∙_}
 use lib.ListN.{length}
 use Rattle.rules.proofs.Faults.{none-first}
-use Rattle.rules.specs.Numbers.{Faults, bankFaults, roomFaults, answered, unless, toldPrescribed, toldNext}
+use Rattle.rules.specs.Refused.{Faults, bankFaults, roomFaults, answered, unless}
+use Rattle.rules.specs.Numbers.{toldPrescribed, toldNext}
 use Rattle.rules.specs.Records.{listedOf}
 use Rattle.rules.specs.Decide.{stoppedBy, decisionOf, prescribeOf}
 use Rattle.rules.specs.Explain.{explanationOf, explainFaults, explainOf, explainList, nextEligibleOf}
 use Rattle.rules.specs.declared.records.KernelInput.{KernelInput}
 use Rattle.rules.specs.declared.records.PolicySnapshot.{PolicySnapshot}
 use Rattle.rules.proofs.Choices.{below-yes, below-no}
-use Rattle.rules.proofs.Told.{one-prescribed, one-next}
-use Rattle.kernel.proofs.Answers.{Same}
+use Rattle.rules.proofs.Told.{Same, one-prescribed, one-next}
 
 module _ (p : PolicySnapshot) (q : KernelInput) (bank list : List ℕ) where
   pub one-explain : Same toldPrescribed (explainOf p q bank list)

@@ -25,8 +25,8 @@ use Rattle.rules.proofs.Choices.{below-no}
 use Rattle.rules.proofs.Verdicts.{Told, by-gate, by-budget, by-utility, eligible, verdict-told}
 use Rattle.ranking.specs.State.{stateOf}
 use Rattle.ranking.specs.declared.state.State.{State}
-use Rattle.kernel.specs.Decide.{chosenFrom, decidedFrom}
-use Rattle.kernel.proofs.Decisions.{state-decides}
+use Rattle.deciding.specs.Decide.{chosenFrom, decidedFrom}
+use Rattle.deciding.proofs.Decisions.{state-decides}
 use Rattle.explain.proofs.Entries.{length-entry}
 
 -- How many of so many entries, from a place on, are eligible

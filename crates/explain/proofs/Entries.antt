@@ -15,13 +15,11 @@ use Rattle.rules.specs.declared.records.KernelModel.{KernelModel}
 use Rattle.rules.specs.declared.records.KernelInput.{KernelInput}
 use Rattle.rules.specs.declared.records.PolicySnapshot.{PolicySnapshot}
 use Rattle.endian.specs.Put.{patched}
-use Rattle.bank.proofs.Layouts.{length-packed}
+use Rattle.packing.proofs.Layouts.{length-packed}
 use Rattle.pricing.specs.declared.Pricing.{Pricing}
 use Rattle.ranking.specs.Verdict.{verdictIn}
-use Rattle.bank.proofs.Listing.{length-listed, listed-at}
-use Rattle.scan.proofs.Places.{nowhere}
-use Rattle.splice.specs.Written.{Written}
-use Rattle.splice.proofs.Pieces.{written-none, written-one, written-then, written-as, written-length, written-filled}
+use Rattle.bank.proofs.Listing.{length-listed, listed-at, nowhere}
+use Rattle.splice.proofs.Pieces.{Written, written-none, written-one, written-then, written-as, written-length, written-filled}
 use Rattle.explain.specs.Scanned.{scanned}
 use Rattle.explain.specs.Entry.{entry}
 use Rattle.explain.proofs.Verdicts.{tellIn}

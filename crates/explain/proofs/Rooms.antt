@@ -3,13 +3,13 @@ use Prim.Native.Nat.{ℕ, _≤_}
 use mathlib.Core.Path.{_≡_, refl, sym, ap, _∙_}
 use mathlib.Core.List.{List, [], _∷_, _++_}
 use Rattle.rules.specs.Bytes.{filled}
-use Rattle.rules.specs.Numbers.{Faults, roomFaults, listUnless}
+use Rattle.rules.specs.Refused.{Faults, roomFaults, listUnless}
 use Rattle.rules.specs.declared.refusal.Refusal.{Refusal}
 use Rattle.rules.specs.declared.refusal.Outcome.{Outcome}
 use Rattle.rules.specs.declared.refusal.Outcome.the-variants.{Answered, Refused}
 use Rattle.rules.proofs.Faults.{none-after, room-passed, room-enough}
-use Rattle.kernel.proofs.Refusals.{none-told}
-use Rattle.kernel.specs.Refuse.{leading, toldLeading}
+use Rattle.outset.proofs.Refusals.{none-told}
+use Rattle.outset.specs.Refuse.{leading, toldLeading}
 
 -- ROOM ENOUGH IS NO REFUSAL
 pub room-open : (needed room : ℕ) → needed ≤ room → leading (roomFaults needed room) ≡ toldLeading Answered

@@ -17,10 +17,10 @@ use Rattle.rules.specs.declared.records.KernelInput.{KernelInput}
 use Rattle.rules.specs.declared.records.PolicySnapshot.{PolicySnapshot}
 use Rattle.rules.specs.declared.decision.KernelReason.{KernelReason}
 use Rattle.rules.proofs.Choices.{below-yes, below-no}
-use Rattle.kernel.specs.Stop.{toldStop}
-use Rattle.kernel.specs.declared.stop.Stop.{Stop}
-use Rattle.kernel.specs.declared.stop.Stop.the-variants.{Open, By}
-use Rattle.kernel.proofs.Stops.{stopped-decision}
+use Rattle.deciding.specs.Stop.{toldStop}
+use Rattle.deciding.specs.declared.stop.Stop.{Stop}
+use Rattle.deciding.specs.declared.stop.Stop.the-variants.{Open, By}
+use Rattle.deciding.proofs.Stops.{stopped-decision}
 
 -- A request that nothing stops, over no record, is rejected with 102
 empty-reason : (p : PolicySnapshot) (q : KernelInput) → stoppedBy p q ≡ 0 → decisionOf p q [] .reason ≡ 102

@@ -6,7 +6,7 @@ use mathlib.Core.Option.{Option}
 use lib.ListN.{length}
 use Rattle.rules.specs.Limits.{recordBytes, maxProgramModels, maxCatalogModels}
 use Rattle.rules.specs.Records.{recordsIn, listedOf}
-use Rattle.rules.specs.Numbers.{Fault, Faults, bankFaults, lengthFaults}
+use Rattle.rules.specs.Refused.{Fault, Faults, bankFaults, lengthFaults}
 use Rattle.rules.specs.Decide.{requestFaults}
 use Rattle.rules.specs.Validate.{catalogFaults}
 use Rattle.rules.specs.Stored.{bodyLength, afterOf, formFaults}
@@ -18,13 +18,13 @@ use Rattle.rules.specs.declared.refusal.Refusal.the-variants as refusal
 use Rattle.rules.specs.declared.refusal.Outcome.{Outcome}
 use Rattle.rules.specs.declared.refusal.Outcome.the-variants.{Answered, Refused}
 use Rattle.rules.proofs.Choices.{below-yes, below-no, equal-yes}
-use Rattle.kernel.specs.Refuse.{leading, toldLeading}
-use Rattle.kernel.proofs.Refusals.{append-refused, none-told}
+use Rattle.outset.specs.Refuse.{leading, toldLeading}
+use Rattle.outset.proofs.Refusals.{append-refused, none-told}
 use Rattle.rules.proofs.Faults.{none-first, some-fault}
 use Rattle.stored.proofs.OneField.{Passed, body-length}
 use Rattle.stored.proofs.Forms.{form-passed}
 use Rattle.stored.proofs.Reading.{fits-bank}
-use Rattle.inputs.specs.Opening.{Formed, openingFaults, firstRefused}
+use Rattle.inputs.specs.Formed.{Formed, formedFaults, firstRefused}
 use native.Mathlib.Omega.{arith}
 
 -- AN INPUT THAT PASSES HAS ITS THREE FIELDS
@@ -71,38 +71,38 @@ after-none (f ∷ fs) gs hs n h = some-fault n
 
 module _ {bank : List ℕ} (input : List ℕ) (formed : Formed input) (is : bank ≡ programBank input) where
   -- 19 AFTER THE FORM: more models than the programs take
-  pub many-refused : maxProgramModels < length bank / recordBytes → toldLeading (Refused refusal.TooManyForProgram) ≡ leading (openingFaults input)
-  unfolding openingFaults toldLeading leading
+  pub many-refused : maxProgramModels < length bank / recordBytes → toldLeading (Refused refusal.TooManyForProgram) ≡ leading (formedFaults input)
+  unfolding formedFaults toldLeading leading
   many-refused h =
       rw (formed, below-yes maxProgramModels (recordsIn (length (programBank input))) _ _ (omega (arith, h, ap length is)))
 
-  pub few-pass : length bank / recordBytes ≤ maxProgramModels → toldLeading Answered ≡ leading (openingFaults input)
-  unfolding openingFaults toldLeading leading
+  pub few-pass : length bank / recordBytes ≤ maxProgramModels → toldLeading Answered ≡ leading (formedFaults input)
+  unfolding formedFaults toldLeading leading
   few-pass h =
       rw (formed, below-no maxProgramModels (recordsIn (length (programBank input))) _ _ (omega (arith, h, ap length is)))
 
 -- An input that passes those is formed
-pub opening-formed : (input : List ℕ) → openingFaults input ≡ [] → Formed input
-unfolding openingFaults
+pub opening-formed : (input : List ℕ) → formedFaults input ≡ [] → Formed input
+unfolding formedFaults
 opening-formed input e = none-first (formFaults (1 ∷ 2 ∷ 3 ∷ []) input) _ e
 
 pub program-formed : (input : List ℕ) → programFaults input ≡ [] → Formed input
-unfolding programFaults openingFaults
-program-formed input e = opening-formed input (none-first (openingFaults input) _ (none-first _ _ e))
+unfolding programFaults formedFaults
+program-formed input e = opening-formed input (none-first (formedFaults input) _ (none-first _ _ e))
 
 -- THE FORM AND 19 COME FIRST
-pub opening-refused : {o : Outcome} {r : Refusal} (input : List ℕ) → o ≡ Refused r → toldLeading o ≡ leading (openingFaults input)
+pub opening-refused : {o : Outcome} {r : Refusal} (input : List ℕ) → o ≡ Refused r → toldLeading o ≡ leading (formedFaults input)
     → toldLeading (Refused r) ≡ leading (programFaults input)
-unfolding programFaults openingFaults
-opening-refused input e h = append-refused _ _ refl (append-refused (openingFaults input) (catalogFaults (programPolicy input) (programModels input)) e h)
+unfolding programFaults formedFaults
+opening-refused input e h = append-refused _ _ refl (append-refused (formedFaults input) (catalogFaults (programPolicy input) (programModels input)) e h)
 
 -- THEN VALIDATION, THEN THE REQUEST
-pub program-told : {r : Outcome} {p : PolicySnapshot} {q : KernelInput} {bank : List ℕ} (valid clear : Outcome) (input : List ℕ) → openingFaults input ≡ []
+pub program-told : {r : Outcome} {p : PolicySnapshot} {q : KernelInput} {bank : List ℕ} (valid clear : Outcome) (input : List ℕ) → formedFaults input ≡ []
     → p ≡ programPolicy input → bank ≡ programBank input → q ≡ programRequest input
     → toldLeading valid ≡ leading (catalogFaults p (listedOf bank)) → toldLeading clear ≡ leading (requestFaults q 0) → r ≡ firstRefused valid clear
     → toldLeading r ≡ leading (programFaults input)
-unfolding programFaults openingFaults
+unfolding programFaults formedFaults
 program-told valid clear input opens policy models request v c e =
     ap toldLeading e
-    ∙ after-none (openingFaults input) _ _ opens
+    ∙ after-none (formedFaults input) _ _ opens
     (both-told valid clear _ _ (v ∙ (λ i. leading (catalogFaults (policy i) (listedOf (models i))))) (c ∙ ap (λ (x : KernelInput). leading (requestFaults x 0)) request))

@@ -1,2 +1,2 @@
 -- What refuses an input before validation.
-pub mod Opening
+pub mod Formed

@@ -2,12 +2,12 @@
 ghost use mathlib.Core.Path.{_≡_};
 ghost use mathlib.Core.List.{[]};
 ghost use Rattle.rules.specs.Printed.{programPolicy, programBank, programRequest, programFaults};
-ghost use Rattle.kernel.specs.Refuse.{leading, toldLeading};
-ghost use Rattle.inputs.specs.Opening.{Formed, openingFaults, firstRefused};
+ghost use Rattle.outset.specs.Refuse.{leading, toldLeading};
+ghost use Rattle.inputs.specs.Formed.{Formed, formedFaults, firstRefused};
 use bank::input_of;
 use bank::policy_of;
 use catalogue::validation::catalog_outcome;
-use kernel::refuse::input_outcome;
+use outset::refuse::input_outcome;
 use rules::KernelInput;
 use rules::Outcome;
 use rules::PolicySnapshot;
@@ -48,7 +48,7 @@ pub fn request_in(input: &[u8]) -> KernelInput
 
 // 20 to 22 over all three fields, then 19.
 fn opening(input: &[u8]) -> Outcome
-    ensures { λ r. ⌜ toldLeading r ≡ leading (openingFaults (now (input .entry))) ⌝ }
+    ensures { λ r. ⌜ toldLeading r ≡ leading (formedFaults (now (input .entry))) ⌝ }
 {
     let tags = [POLICY_TAG, BANK_TAG, REQUEST_TAG];
     let outcome = lay_out(input, &tags);

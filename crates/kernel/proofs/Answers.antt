@@ -3,17 +3,14 @@
 use Prim.Native.Nat.{ℕ}
 use mathlib.Core.List.{List, [], _∷_, _++_}
 use mathlib.Core.Path.{_≡_, refl}
-use Rattle.rules.specs.Numbers.{toldOutcome, toldPrescribed, toldTraced, toldUtility, toldFound, Faults, bankFaults, Answer, refused, answered, unless, Decision, DecisionAndTrace}
+use Rattle.rules.specs.Refused.{toldOutcome, Faults, bankFaults, Answer, refused, answered, unless}
+use Rattle.rules.specs.Numbers.{toldPrescribed, toldTraced, toldUtility, toldFound, Decision, DecisionAndTrace}
 use Rattle.rules.specs.Records.{listedOf}
 use Rattle.rules.specs.Listing.{findOf}
 use Rattle.rules.specs.Decide.{requestFaults, requestCheck, tracedOf, prescribeOf, prescribeCheckedOf, prescribeTracedOf, prescribeTracedCheckedOf, utilityForModelOf}
 use Rattle.rules.specs.declared.records.KernelInput.{KernelInput}
 use Rattle.rules.specs.declared.records.PolicySnapshot.{PolicySnapshot}
-use Rattle.rules.proofs.Told.{one-outcome, one-prescribed, one-traced, one-utility, one-found}
-
--- two answers that one promise permits
-abbrev pub Same : {A B : Type 0} → (A → B) → B → Type 0
-Same {A} told rule = (r s : A) → told r ≡ rule → told s ≡ rule → r ≡ s
+use Rattle.rules.proofs.Told.{Same, one-outcome, one-prescribed, one-traced, one-utility, one-found}
 
 module _ (p : PolicySnapshot) (q : KernelInput) (bank : List ℕ) where
   pub one-prescribe : Same toldPrescribed (prescribeOf p q bank)

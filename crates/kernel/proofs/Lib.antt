@@ -1,8 +1,3 @@
--- The laws of what a scan comes to, of single records, of stops and of refusals, which callers cite.
-pub mod Decisions
-pub mod Wholes
-pub mod Refusals
-pub mod Stops
+-- The laws of single records and of the calls, which callers cite.
 pub mod Singles
-pub mod Finding
 pub mod Answers

@@ -10,7 +10,7 @@ use lib.ListN.{length, take, drop, length-drop}
 use lib.Seq.{length-take-le}
 use Rattle.rules.specs.Choice.{equal}
 use Rattle.rules.specs.Records.{listed, modelAt}
-use Rattle.rules.specs.Numbers.{fault, refused, answered}
+use Rattle.rules.specs.Refused.{fault, refused, answered}
 use Rattle.rules.specs.Verdict.{judge, judged, verdictOf}
 use Rattle.rules.specs.Rank.{candidateOf, insert, ranking}
 use Rattle.rules.specs.Count.{countsFrom, countsOf}
@@ -22,13 +22,13 @@ use Rattle.pricing.specs.Pricing.{pricingOf}
 use Rattle.pricing.specs.declared.Pricing.{Pricing}
 use Rattle.ranking.specs.State.{heldOf, topOf, stateOf, startOf}
 use Rattle.scan.specs.Scan.{Room}
-use Rattle.kernel.specs.Decide.{worthFrom}
+use Rattle.kernel.specs.Single.{worthFrom}
 use Rattle.scan.specs.Places.{placedFrom}
 use Rattle.ranking.specs.Verdict.{scanOf}
 use Rattle.ranking.specs.declared.state.State.{State}
 use Rattle.scan.proofs.Places.{placed-one}
 use Rattle.ranking.proofs.States.{verdict-worth, run-start}
-use Rattle.kernel.proofs.Decisions.{score-back}
+use Rattle.deciding.proofs.Decisions.{score-back}
 use Rattle.ranking.proofs.Verdicts.{scan-run}
 
 -- THE STATE AFTER ONE RECORD TELLS ITS UTILITY, OR THAT IT IS NOT ELIGIBLE

@@ -1,4 +1,2 @@
--- What stops a request, what refuses a call, and what a scan's state comes to.
-pub mod Decide
-pub mod Refuse
-pub mod Stop
+-- What a scan of one record comes to.
+pub mod Single

@@ -1,18 +1,13 @@
 // The calls that decide over a lent bank. Those passed on here ask nothing of their caller; what stands in a module alone is for other
 // crates.
 pub mod calls;
-pub mod decide;
 pub mod lent;
-pub mod listing;
-pub mod refuse;
 pub mod single;
-pub mod stand;
-pub mod stop;
 
 pub use calls::prescribe;
 pub use calls::prescribe_checked;
 pub use calls::prescribe_with_trace;
 pub use calls::prescribe_with_trace_checked;
-pub use listing::find;
-pub use refuse::validate_input;
+pub use outset::find;
+pub use outset::validate_input;
 pub use single::utility_for_model;

@@ -12,7 +12,7 @@ use Rattle.rules.specs.declared.decision.KernelAction.{KernelAction}
 use Rattle.rules.specs.declared.decision.KernelAction.the-variants as action
 use Rattle.endian.specs.Put.{patched}
 use Rattle.endian.proofs.Stored.{byte-patch, stored-patch}
-use Rattle.bank.proofs.Packing.{Laid}
+use Rattle.packing.proofs.Packing.{Laid}
 use Rattle.splice.proofs.Pieces.{patched-start}
 use Rattle.layout.specs.Layout.{flagNo, pricedNo, decisionFields, decisionNumbers, uncountedBytes}
 

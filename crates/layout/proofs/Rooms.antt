@@ -8,9 +8,8 @@ use Rattle.rules.specs.Bytes.{packed, filled}
 use Rattle.rules.specs.Numbers.{Entry, toldEntry, Boundary}
 use Rattle.rules.specs.declared.boundary.Requirement.{Requirement}
 use Rattle.endian.specs.Put.{patched}
-use Rattle.bank.proofs.Layouts.{length-packed}
-use Rattle.splice.specs.Written.{Written}
-use Rattle.splice.proofs.Pieces.{patched-start, written-then, written-length, written-filled}
+use Rattle.packing.proofs.Layouts.{length-packed}
+use Rattle.splice.proofs.Pieces.{patched-start, Written, written-then, written-length, written-filled}
 use Rattle.layout.specs.Layout.{leverBytes, roomsBytes, boundarySize, boundaryFields, boundaryNumbers}
 
 pub length-lever : (e : Entry) → length (leverBytes e) ≡ 26

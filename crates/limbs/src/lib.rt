@@ -5,7 +5,6 @@ ghost use Prim.Native.Nat.{min, _+_, _-_, _*_, _/_, _^_, _<_, _≤_};
 ghost use lib.Dec.{ltb};
 ghost use lib.IntN.{pos, _-ℤ_};
 ghost use Rattle.rules.specs.Limits.{maxU64};
-ghost use Rattle.rules.specs.Utility.{held};
 ghost use Rattle.rules.specs.Wide.{val, valZ, limbs};
 use rules::SignedWide;
 use rules::Wide;
@@ -16,10 +15,8 @@ const HALF: u64 = 0x1_0000_0000;
 const TOP_BIT: u64 = 0x8000_0000_0000_0000;
 // The bits of a limb.
 const LIMB_BITS: u64 = 64;
-// The highest number of a u64, and of an i64.
+// The highest number of a u64.
 const MAX_U64: u64 = 0xffff_ffff_ffff_ffff;
-
-const MAX_I64: u64 = 0x7fff_ffff_ffff_ffff;
 
 // x itself: the Rust's `i128::from` and `u128::from`.
 pub fn of_one(x: u64) -> Wide
@@ -168,29 +165,4 @@ pub fn held(w: Wide) -> u64
         return w.lo;
     }
     MAX_U64
-}
-
-// The lower of two numbers.
-fn least(x: u64, y: u64) -> u64
-    ensures { λ r. ⌜ r ≡ min x y ⌝ }
-{
-    if x < y {
-        return x;
-    }
-    y
-}
-
-// s, or the i64 nearest to it: `clamp_i128_to_i64`. Below zero it is the complement of one less, since the size of the
-// lowest i64 is no i64.
-pub fn held_within(s: SignedWide) -> i64
-    ensures { λ r. ⌜ r ≡ held (valZ s) ⌝ }
-{
-    let size = held(s.size);
-    if size == 0 {
-        return 0;
-    }
-    if s.negative {
-        return !(least(size - 1, MAX_I64) as i64);
-    }
-    least(size, MAX_I64) as i64
 }

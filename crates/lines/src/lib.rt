@@ -3,9 +3,11 @@ ghost use mathlib.Core.Path.{_≡_};
 ghost use mathlib.Core.List.{map};
 ghost use Prim.Native.Nat.{_+_, _≤_};
 ghost use lib.ListN.{length, take};
-ghost use Rattle.rules.specs.Numbers.{toldRefusal, toldDecision, toldCost, toldEntry};
+ghost use Rattle.rules.specs.Refused.{toldRefusal};
+ghost use Rattle.rules.specs.Numbers.{toldDecision, toldCost, toldEntry};
 ghost use Rattle.rules.specs.Printed.{decisionLine, countsLine, leverLine, leverLines, refusedLine};
-ghost use Rattle.splice.specs.Written.{Written};
+ghost use mathlib.Core.Option.{some};
+ghost use Rattle.splice.specs.Placed.{placed};
 ghost use Rattle.lines.specs.Pieces.{decisionStart, costWord};
 use rules::BoundaryCost;
 use rules::KernelDecision;
@@ -26,7 +28,7 @@ const LEVERS: usize = 4;
 // The decision's line up to its utility.
 fn put_start(out: &mut [u8], at: usize, decision: KernelDecision) -> usize
     requires { ⌜ at + 155 ≤ length (now out) ⌝ }
-    ensures { λ r. ⌜ Written (now (out .entry)) at (decisionStart (toldDecision decision)) (now (out .exit)) r ⌝ }
+    ensures { λ r. ⌜ some (r, now (out .exit)) ≡ placed (now (out .entry)) at (decisionStart (toldDecision decision)) ⌝ }
     ensures { λ r. ⌜ r ≤ at + 155 ⌝ }
 {
     let action = decision.action;
@@ -47,7 +49,7 @@ fn put_start(out: &mut [u8], at: usize, decision: KernelDecision) -> usize
 // The decision's line.
 pub fn put_decision(out: &mut [u8], at: usize, decision: KernelDecision) -> usize
     requires { ⌜ at + 282 ≤ length (now out) ⌝ }
-    ensures { λ r. ⌜ Written (now (out .entry)) at (decisionLine (toldDecision decision)) (now (out .exit)) r ⌝ }
+    ensures { λ r. ⌜ some (r, now (out .exit)) ≡ placed (now (out .entry)) at (decisionLine (toldDecision decision)) ⌝ }
     ensures { λ r. ⌜ r ≤ at + 282 ⌝ }
 {
     let numbers = [
@@ -66,7 +68,7 @@ pub fn put_decision(out: &mut [u8], at: usize, decision: KernelDecision) -> usiz
 // The line of the nine counts.
 pub fn put_counts(out: &mut [u8], at: usize, counts: RejectionHistogram) -> usize
     requires { ⌜ at + 198 ≤ length (now out) ⌝ }
-    ensures { λ r. ⌜ Written (now (out .entry)) at (countsLine counts) (now (out .exit)) r ⌝ }
+    ensures { λ r. ⌜ some (r, now (out .exit)) ≡ placed (now (out .entry)) at (countsLine counts) ⌝ }
     ensures { λ r. ⌜ r ≤ at + 198 ⌝ }
 {
     let numbers = [
@@ -86,7 +88,7 @@ pub fn put_counts(out: &mut [u8], at: usize, counts: RejectionHistogram) -> usiz
 // A space, and the cost at a boundary or a dash.
 fn put_cost(out: &mut [u8], at: usize, cost: BoundaryCost) -> usize
     requires { ⌜ at + 21 ≤ length (now out) ⌝ }
-    ensures { λ r. ⌜ Written (now (out .entry)) at (costWord (toldCost cost)) (now (out .exit)) r ⌝ }
+    ensures { λ r. ⌜ some (r, now (out .exit)) ≡ placed (now (out .entry)) at (costWord (toldCost cost)) ⌝ }
     ensures { λ r. ⌜ r ≤ at + 21 ⌝ }
 {
     match cost {
@@ -98,7 +100,7 @@ fn put_cost(out: &mut [u8], at: usize, cost: BoundaryCost) -> usize
 // The line of a lever.
 pub fn put_lever(out: &mut [u8], at: usize, lever: Requirement) -> usize
     requires { ⌜ at + 90 ≤ length (now out) ⌝ }
-    ensures { λ r. ⌜ Written (now (out .entry)) at (leverLine (toldEntry lever)) (now (out .exit)) r ⌝ }
+    ensures { λ r. ⌜ some (r, now (out .exit)) ≡ placed (now (out .entry)) at (leverLine (toldEntry lever)) ⌝ }
     ensures { λ r. ⌜ r ≤ at + 90 ⌝ }
 {
     let cost = lever.cost_at_boundary_microunits;
@@ -112,7 +114,7 @@ pub fn put_lever(out: &mut [u8], at: usize, lever: Requirement) -> usize
 // The lines of an answer's first levers.
 pub fn put_levers(out: &mut [u8], at: usize, levers: Levers) -> usize
     requires { ⌜ at + 360 ≤ length (now out) ⌝ }
-    ensures { λ r. ⌜ Written (now (out .entry)) at (leverLines (take (levers .count) (map toldEntry (levers .levers)))) (now (out .exit)) r ⌝ }
+    ensures { λ r. ⌜ some (r, now (out .exit)) ≡ placed (now (out .entry)) at (leverLines (take (levers .count) (map toldEntry (levers .levers)))) ⌝ }
     ensures { λ r. ⌜ r ≤ at + 360 ⌝ }
 {
     let mut i = 0;
@@ -131,7 +133,7 @@ pub fn put_levers(out: &mut [u8], at: usize, levers: Levers) -> usize
 // The line of a refusal.
 pub fn put_refused(out: &mut [u8], at: usize, refusal: Refusal) -> usize
     requires { ⌜ at + 29 ≤ length (now out) ⌝ }
-    ensures { λ r. ⌜ Written (now (out .entry)) at (refusedLine (toldRefusal refusal)) (now (out .exit)) r ⌝ }
+    ensures { λ r. ⌜ some (r, now (out .exit)) ≡ placed (now (out .entry)) at (refusedLine (toldRefusal refusal)) ⌝ }
     ensures { λ r. ⌜ r ≤ at + 29 ⌝ }
 {
     let numbers = [refusal.number() as u64];

@@ -10,7 +10,7 @@ use lib.Dec.{T, ltb, leb}
 use lib.IntN.{ℤ, pos, negsuc, negℤ, natAbs, subℕ, _+ℤ_, _-ℤ_, +ℤ-assoc, negℤ-+ℤ}
 use lib.Signed.{ltZ, leZ, nonNeg}
 use mir.Syntax.{w64}
-use mir.Val.{toZ, SFits}
+use mir.Val.{toZ}
 use mir.Facts.{toZ-pos, toZ-neg}
 use Rattle.limbs.proofs.Limbs.{decides}
 use Rattle.rules.specs.Limits.{maxU64, maxI64}
@@ -60,17 +60,6 @@ back s (no n) = let h = le-of n in ap scored (unscored-above s h) ∙ omega arit
 -- a score is the score of what it stands for
 pub scored-unscored : (s : ℕ) → scored (unscored s) ≡ s
 scored-unscored s = back s (decLt s (2 ^ 63))
-
--- an integer within i64 is what its score stands for
-pub unscored-scored : (z : ℤ) → SFits w64 z → unscored (scored z) ≡ z
-unfolding scored
-unscored-scored (pos n) f = unscored-above (2 ^ 63 + n) (omega arith) ∙ ap pos (omega arith)
-unscored-scored (negsuc n) f = unscored-below (2 ^ 63 - suc n) (omega arith) ∙ ap negsuc (omega arith)
-
--- whatever is held is within i64
-pub held-fits : (z : ℤ) → SFits w64 (held z)
-held-fits (pos n) = record { sfits = omega arith }
-held-fits (negsuc n) = record { sfits = omega arith }
 
 -- ---- order
 

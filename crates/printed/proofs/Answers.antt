@@ -6,7 +6,8 @@ use native.Mathlib.Omega.{arith}
 use lib.ListN.{length, length-append, take, drop}
 use lib.Seq.{take-at}
 use Rattle.rules.specs.Bytes.{filled}
-use Rattle.rules.specs.Numbers.{Answer, roomFaults, answered, unless, toldWritten}
+use Rattle.rules.specs.Refused.{Answer, roomFaults, answered, unless}
+use Rattle.rules.specs.Numbers.{toldWritten}
 use Rattle.rules.specs.Printed.{unitText, askText, printOf, printBuffer}
 use Rattle.rules.specs.declared.forms.Written.{Written}
 use Rattle.rules.specs.declared.forms.Written.the-variants as written

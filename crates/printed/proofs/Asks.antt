@@ -5,7 +5,8 @@ use mathlib.Core.List.{List, [], _∷_}
 use mathlib.Core.Option.{Option, none, some}
 use native.Mathlib.Omega.{arith}
 use Rattle.rules.specs.Records.{Listed, listedOf}
-use Rattle.rules.specs.Numbers.{fault, answered, toldFound, Boundary}
+use Rattle.rules.specs.Refused.{fault, answered}
+use Rattle.rules.specs.Numbers.{toldFound, Boundary}
 use Rattle.rules.specs.Listing.{firstListed, placeOf}
 use Rattle.rules.specs.Win.{whatWouldWinOf}
 use Rattle.rules.specs.Printed.{programPolicy, programBank, programModels, programRequest, programFaults, unlistedFaults, askFaults, askedOf}
@@ -17,10 +18,10 @@ use Rattle.rules.specs.declared.refusal.Outcome.{Outcome}
 use Rattle.rules.specs.declared.refusal.Outcome.the-variants as outcome
 use Rattle.rules.specs.declared.decision.Found.{Found}
 use Rattle.rules.specs.declared.decision.Found.the-variants as found
-use Rattle.kernel.specs.Refuse.{leading, toldLeading}
-use Rattle.kernel.proofs.Refusals.{append-refused}
+use Rattle.outset.specs.Refuse.{leading, toldLeading}
+use Rattle.outset.proofs.Refusals.{append-refused}
 use Rattle.rules.proofs.Faults.{none-first}
-use Rattle.inputs.specs.Opening.{Formed}
+use Rattle.inputs.specs.Formed.{Formed}
 use Rattle.inputs.proofs.Tests.{bank-whole}
 
 -- What refuses the programs' input comes first

@@ -13,7 +13,7 @@ use lib.ListN.{length, take, drop, length-take, length-drop}
 use lib.Seq.{take-take}
 use Rattle.rules.specs.Choice.{below, equal}
 use Rattle.rules.specs.Bytes.{number}
-use Rattle.rules.specs.Numbers.{Fault, Faults, fault}
+use Rattle.rules.specs.Refused.{Fault, Faults, fault}
 use Rattle.rules.specs.Stored.{fits, tagOf, bodyLength, afterOf, fieldFaults, formFaults}
 use Rattle.rules.specs.Printed.{textUnless, programFaults, askFaults, unitText, askText}
 use Rattle.rules.proofs.Choices.{below-no, equal-yes, equal-no}

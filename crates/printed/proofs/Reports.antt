@@ -4,7 +4,8 @@ use mathlib.Core.Path.{_≡_, refl, sym, ap, _∙_}
 use mathlib.Core.List.{List, [], _∷_, _++_}
 use native.Mathlib.Omega.{arith}
 use Rattle.rules.specs.Records.{Listed, listedOf}
-use Rattle.rules.specs.Numbers.{Fault, Faults, bankFaults, refused, answered, unless, toldRefusal, Decision, toldDecision, DecisionAndTrace, toldTraced, Boundary}
+use Rattle.rules.specs.Refused.{Fault, Faults, bankFaults, refused, answered, unless, toldRefusal}
+use Rattle.rules.specs.Numbers.{Decision, toldDecision, DecisionAndTrace, toldTraced, Boundary}
 use Rattle.rules.specs.Decide.{decisionOf, countsIn, tracedOf, traceOf, prescribeTracedOf}
 use Rattle.rules.specs.Margin.{marginIn, decisionMarginOf}
 use Rattle.rules.specs.Printed.{decisionLine, countsLine, leverLines, entriesOf, refusedLine, textUnless, unitReport}
@@ -18,7 +19,7 @@ use Rattle.rules.specs.declared.decision.DecisionTrace.{DecisionTrace}
 use Rattle.rules.specs.declared.decision.RejectionHistogram.{RejectionHistogram}
 use Rattle.rules.specs.declared.decision.Traced.{Traced}
 use Rattle.rules.specs.declared.decision.Traced.the-variants as traced
-use Rattle.kernel.specs.Refuse.{leading, toldLeading}
+use Rattle.outset.specs.Refuse.{leading, toldLeading}
 use Rattle.rules.proofs.Faults.{some-fault}
 use Rattle.stored.proofs.Buffers.{none-answered}
 

@@ -1,6 +1,6 @@
 -- Where a text that was printed ends.
 use Prim.Native.Nat.{ℕ}
-use Rattle.rules.specs.Numbers.{Answer, refused, answered}
+use Rattle.rules.specs.Refused.{Answer, refused, answered}
 
 unfoldable pub endOf : Answer ℕ → ℕ
 endOf (refused f) = 0

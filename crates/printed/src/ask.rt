@@ -4,9 +4,10 @@ ghost use Prim.Native.Nat.{_≤_};
 ghost use lib.ListN.{length};
 ghost use Rattle.rules.specs.Numbers.{toldWritten, toldBoundaries};
 ghost use Rattle.rules.specs.Printed.{askFaults, askReport, askText, printOf, printBuffer};
-ghost use Rattle.kernel.specs.Refuse.{leading, toldLeading};
+ghost use Rattle.outset.specs.Refuse.{leading, toldLeading};
 ghost use Rattle.printed.specs.Sizes.{askBytes};
-ghost use Rattle.splice.specs.Written.{Written as Placed};
+ghost use mathlib.Core.Option.{some};
+ghost use Rattle.splice.specs.Placed.{placed};
 use crate::deliver::deliver;
 use crate::sizes::ASK_BYTES;
 use counterfactual::what_would_win;
@@ -14,10 +15,10 @@ use inputs::bank_in;
 use inputs::policy_in;
 use inputs::program_outcome;
 use inputs::request_in;
-use kernel::listing::first_listed;
 use lines::put_decision;
 use lines::put_levers;
 use lines::put_refused;
+use outset::listing::first_listed;
 use rules::Boundaries;
 use rules::Found;
 use rules::Outcome;
@@ -44,7 +45,7 @@ pub fn ask_outcome(input: &[u8], id: u32) -> Outcome
 // The decision, the levers that win, the passes.
 fn put_asked(out: &mut [u8], asked: Boundaries) -> usize
     requires { ⌜ askBytes ≤ length (now out) ⌝ }
-    ensures { λ r. ⌜ Placed (now (out .entry)) 0 (askReport (toldBoundaries asked .decision) (toldBoundaries asked)) (now (out .exit)) r ⌝ }
+    ensures { λ r. ⌜ some (r, now (out .exit)) ≡ placed (now (out .entry)) 0 (askReport (toldBoundaries asked .decision) (toldBoundaries asked)) ⌝ }
 {
     let levers = asked.levers;
     let passes = [levers.passes];
@@ -56,7 +57,7 @@ fn put_asked(out: &mut [u8], asked: Boundaries) -> usize
 // The whole answer.
 fn put_ask(out: &mut [u8], input: &[u8], id: u32) -> usize
     requires { ⌜ askBytes ≤ length (now out) ⌝ }
-    ensures { λ r. ⌜ Placed (now (out .entry)) 0 (askText id (now (input .entry))) (now (out .exit)) r ⌝ }
+    ensures { λ r. ⌜ some (r, now (out .exit)) ≡ placed (now (out .entry)) 0 (askText id (now (input .entry))) ⌝ }
 {
     let outcome = ask_outcome(input, id);
     if let Outcome::Refused(refusal) = outcome {

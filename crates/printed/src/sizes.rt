@@ -1,6 +1,6 @@
 // Sizes that always suffice: of what is read of an input, and of each text.
 
-// One byte more than the longest input that is answered; no answer depends on what comes after.
+// One byte more than the longest input whose form passes; no answer depends on what comes after.
 pub const INPUT_BYTES: usize = 65_628;
 
 // A decision line, a line of counts and four levers.

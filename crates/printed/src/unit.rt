@@ -4,10 +4,12 @@ ghost use mathlib.Core.List.{[]};
 ghost use Prim.Native.Nat.{_≤_};
 ghost use lib.ListN.{length};
 ghost use Rattle.rules.specs.Records.{listedOf};
-ghost use Rattle.rules.specs.Numbers.{bankFaults, toldWritten};
+ghost use Rattle.rules.specs.Refused.{bankFaults};
+ghost use Rattle.rules.specs.Numbers.{toldWritten};
 ghost use Rattle.rules.specs.Printed.{unitReport, unitText, printOf, printBuffer};
 ghost use Rattle.printed.specs.Sizes.{unitBytes};
-ghost use Rattle.splice.specs.Written.{Written as Placed};
+ghost use mathlib.Core.Option.{some};
+ghost use Rattle.splice.specs.Placed.{placed};
 use crate::deliver::deliver;
 use crate::sizes::UNIT_BYTES;
 use counterfactual::decision_margin;
@@ -29,7 +31,7 @@ use rules::Written;
 // The report over a bank of whole records.
 fn put_report(out: &mut [u8], policy: PolicySnapshot, bank: &[u8], request: KernelInput) -> usize
     requires { ⌜ (unitBytes ≤ length (now out)) × (bankFaults (now bank) ≡ []) ⌝ }
-    ensures { λ r. ⌜ Placed (now (out .entry)) 0 (unitReport policy request (listedOf (now (bank .entry)))) (now (out .exit)) r ⌝ }
+    ensures { λ r. ⌜ some (r, now (out .exit)) ≡ placed (now (out .entry)) 0 (unitReport policy request (listedOf (now (bank .entry)))) ⌝ }
 {
     let traced = prescribe_with_trace(policy, bank, request);
     let Traced::Decided(decision, trace) = traced else {
@@ -46,7 +48,7 @@ fn put_report(out: &mut [u8], policy: PolicySnapshot, bank: &[u8], request: Kern
 // The whole answer.
 fn put_unit(out: &mut [u8], input: &[u8]) -> usize
     requires { ⌜ unitBytes ≤ length (now out) ⌝ }
-    ensures { λ r. ⌜ Placed (now (out .entry)) 0 (unitText (now (input .entry))) (now (out .exit)) r ⌝ }
+    ensures { λ r. ⌜ some (r, now (out .exit)) ≡ placed (now (out .entry)) 0 (unitText (now (input .entry))) ⌝ }
 {
     let outcome = program_outcome(input);
     if let Outcome::Refused(refusal) = outcome {

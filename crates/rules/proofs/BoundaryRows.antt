@@ -5,7 +5,8 @@ use mathlib.Core.List.{List, [], _∷_, _++_}
 use mathlib.Core.Option.{none, some}
 use lib.IntN.{pos}
 use lib.ListN.{replicate}
-use Rattle.rules.specs.Numbers.{Decision, Boundary, fault}
+use Rattle.rules.specs.Refused.{fault}
+use Rattle.rules.specs.Numbers.{Decision, Boundary}
 use Rattle.rules.proofs.Rows.{Row, wouldWin, margin}
 use Rattle.rules.proofs.Example.{bank, modelOne, modelTwo, policy, request, with, decision, lever, noLever, boundary}
 use Rattle.rules.proofs.Vectors.{atHardLimit, stopped, unsure}

@@ -4,7 +4,7 @@ use mathlib.Core.List.{_++_}
 use Rattle.rules.specs.Choice.{below, atLeast, equal, lower, higher}
 use Rattle.rules.specs.Bytes.{number, bytesOf, packed, filled}
 use Rattle.rules.specs.Records.{modelOf, inputOf, policyOf, listedOf, modelBytes, inputBytes, policyInBytes}
-use Rattle.rules.specs.Numbers.{lengthFaults, roomFaults}
+use Rattle.rules.specs.Refused.{lengthFaults, roomFaults}
 use Rattle.rules.specs.Gates.{gateOf, detailOf}
 use Rattle.rules.specs.Price.{billed, costOf, scaledPrice}
 use Rattle.rules.specs.Utility.{shareOf, qualityTermOf, riskTermOf, latencyTermOf, exactUtilityOf, utilityOf}

@@ -5,7 +5,8 @@ use mathlib.Core.List.{List, [], _∷_, _++_}
 use mathlib.Core.Option.{Option, none}
 use lib.IntN.{ℤ}
 use lib.ListN.{length, take, drop}
-use Rattle.rules.specs.Numbers.{Decision, DecisionAndTrace, Entry, Boundary, noFault}
+use Rattle.rules.specs.Refused.{noFault}
+use Rattle.rules.specs.Numbers.{Decision, DecisionAndTrace, Entry, Boundary}
 use Rattle.rules.specs.declared.decision.RejectionHistogram.{RejectionHistogram}
 
 -- the two models, the policy and the request

@@ -11,6 +11,7 @@ use borrow.Author.Tests.{lt-ltb, le-ltb}
 use Rattle.rules.specs.declared.boundary.Bound.{Bound}
 use Rattle.rules.specs.declared.boundary.Bound.the-variants.{At, Nothing}
 use Rattle.rules.specs.Halving.{Side, Lowest, Highest, firstTried, middle, keptLow, keptHigh, Halved, onePass, halveIn, halve, passesOf, searchOf, farEnd, laterBy, searchAfterFarEnd}
+use Rattle.rules.specs.Levers.{plain}
 
 -- a test holds or not, and the equation is kept
 pub data Truth (b : Bool) : Type 0 where
@@ -137,3 +138,8 @@ module _ (s : Side) (p : ℕ → Bool) where
   pub margin-some : (low high : ℕ) → p (farEnd s low high) ≡ false → searchAfterFarEnd s p low high ≡ laterBy 1 (searchOf s p low high)
   unfolding searchAfterFarEnd
   margin-some low high e = rw e
+
+-- A LEVER'S PASSES ARE ITS SEARCH'S
+pub plain-passes : (lever current : ℕ) (r : Bound) → plain lever current r .passes ≡ passesOf r
+plain-passes lever current (At b n) = refl
+plain-passes lever current (Nothing n) = refl

@@ -5,7 +5,8 @@ use mathlib.Core.Option.{none, some}
 use lib.IntN.{pos}
 use lib.ListN.{replicate, take}
 use Rattle.rules.specs.Records.{policyOf, inputOf}
-use Rattle.rules.specs.Numbers.{Fault, noFault, fault, inputFault, policyFault, modelFault, Decision}
+use Rattle.rules.specs.Refused.{Fault, noFault, fault, inputFault, policyFault, modelFault}
+use Rattle.rules.specs.Numbers.{Decision}
 use Rattle.rules.specs.Explain.{nextEligibleOf}
 use Rattle.rules.specs.Batch.{batchOf, batchRow, batchCheckedOf, batchCheckedRow}
 use Rattle.rules.specs.Validate.{validateOf}

@@ -6,7 +6,8 @@ use mathlib.Core.Option.{none, some}
 use lib.IntN.{pos, negsuc}
 use lib.ListN.{length, replicate, take}
 use Rattle.rules.specs.Records.{policyOf, inputOf}
-use Rattle.rules.specs.Numbers.{Answer, refused, answered, fault, StoredPolicy}
+use Rattle.rules.specs.Refused.{Answer, refused, answered, fault}
+use Rattle.rules.specs.Numbers.{StoredPolicy}
 use Rattle.rules.specs.Stored.{writeStoredOf, writeStoredBuffer, readStoredOf, readStoredBuffer, writeRequestOf, writeRequestBuffer, readRequestOf}
 use Rattle.rules.specs.Text.{text, decimal}
 use Rattle.rules.specs.Printed.{decisionLine, countsLine, unitText, askText, printOf, printBuffer}

@@ -4,7 +4,8 @@ use Prim.Native.Nat.{ℕ}
 use mathlib.Core.Path.{_≡_}
 use mathlib.Core.List.{List, [], _∷_}
 use Rattle.rules.specs.Records.{inputOf, policyOf}
-use Rattle.rules.specs.Numbers.{Answer, refused, answered, fault, Decision, DecisionAndTrace, Boundary}
+use Rattle.rules.specs.Refused.{Answer, refused, answered, fault}
+use Rattle.rules.specs.Numbers.{Decision, DecisionAndTrace, Boundary}
 use Rattle.rules.specs.Decide.{prescribeTracedOf}
 use Rattle.rules.specs.Explain.{explainOf, explainList}
 use Rattle.rules.specs.Win.{whatWouldWinOf}

@@ -5,7 +5,8 @@ use mathlib.Core.List.{List, [], _∷_, map}
 use mathlib.Core.Option.{Option, none, some}
 use lib.IntN.{ℤ}
 use lib.ListN.{getD}
-use Rattle.rules.specs.Numbers.{Fault, toldRefusal, toldOutcome, toldTrusted, Answer, refused, answered, actionNo, reasonNo, Decision, toldDecision, toldPrescribed, DecisionAndTrace, toldTraced, toldUtility, toldFound, toldNext, Entry, toldCost, toldEntry, Boundary, toldBoundaries}
+use Rattle.rules.specs.Refused.{Fault, toldRefusal, toldOutcome, toldTrusted, Answer, refused, answered}
+use Rattle.rules.specs.Numbers.{actionNo, reasonNo, Decision, toldDecision, toldPrescribed, DecisionAndTrace, toldTraced, toldUtility, toldFound, toldNext, Entry, toldCost, toldEntry, Boundary, toldBoundaries}
 use Rattle.rules.specs.declared.refusal.Refusal.{Refusal}
 use Rattle.rules.specs.declared.refusal.Refusal.the-variants as refusal
 use Rattle.rules.specs.declared.refusal.Outcome.{Outcome}
@@ -261,8 +262,11 @@ boundaries-back b =
 
 -- ---- one law for each type that a call answers; a call's promise is the rule that it cites
 
+abbrev pub Same : {A B : Type 0} → (A → B) → B → Type 0
+Same {A} told rule = (r s : A) → told r ≡ rule → told s ≡ rule → r ≡ s
+
 abbrev pub Determined : {A B : Type 0} → (A → B) → Type 0
-Determined {A} {B} told = (rule : B) (r s : A) → told r ≡ rule → told s ≡ rule → r ≡ s
+Determined {A} {B} told = (rule : B) → Same told rule
 
 pub one-outcome : Determined toldOutcome
 one-outcome = one-answer toldOutcome outcomeFrom outcome-back

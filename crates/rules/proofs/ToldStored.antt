@@ -1,7 +1,8 @@
 -- What document 01 tells of reading and writing a stored form determines the answer, as in `Told`. Assumes nothing.
 use Prim.Native.Nat.{ℕ}
 use mathlib.Core.Path.{_≡_, refl, ap}
-use Rattle.rules.specs.Numbers.{Answer, refused, answered, StoredPolicy, toldStored, toldRequest, toldWritten}
+use Rattle.rules.specs.Refused.{Answer, refused, answered}
+use Rattle.rules.specs.Numbers.{StoredPolicy, toldStored, toldRequest, toldWritten}
 use Rattle.rules.specs.declared.records.KernelInput.{KernelInput}
 use Rattle.rules.specs.declared.forms.StoredRead.{StoredRead}
 use Rattle.rules.specs.declared.forms.StoredRead.the-variants as stored

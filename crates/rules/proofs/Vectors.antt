@@ -6,7 +6,8 @@ use mathlib.Core.Option.{none, some}
 use lib.IntN.{ℤ, pos, negsuc}
 use lib.ListN.{replicate}
 use Rattle.rules.specs.Records.{modelOf, modelBytes, inputOf, inputBytes, policyOf, policyInBytes}
-use Rattle.rules.specs.Numbers.{Decision, fault, noFault, inputFault, firstFault, lengthFaults, refused, answered, twoNumbers}
+use Rattle.rules.specs.Refused.{fault, noFault, inputFault, firstFault, lengthFaults, refused, answered}
+use Rattle.rules.specs.Numbers.{Decision, twoNumbers}
 use Rattle.rules.specs.Price.{costOf, scaledPrice}
 use Rattle.rules.specs.Utility.{held}
 use Rattle.rules.specs.Verdict.{verdictOf}

@@ -3,7 +3,8 @@ use Prim.Native.Nat.{ℕ, suc}
 use mathlib.Core.List.{List, [], _∷_, _++_, map}
 use lib.ListN.{length}
 use Rattle.rules.specs.Records.{listedOf}
-use Rattle.rules.specs.Numbers.{Fault, Faults, firstFault, bankFaults, roomFaults, listUnless, Decision}
+use Rattle.rules.specs.Refused.{Fault, Faults, firstFault, bankFaults, roomFaults, listUnless}
+use Rattle.rules.specs.Numbers.{Decision}
 use Rattle.rules.specs.Decide.{requestFaults, decisionOf}
 use Rattle.rules.specs.declared.records.KernelInput.{KernelInput}
 use Rattle.rules.specs.declared.records.PolicySnapshot.{PolicySnapshot}

@@ -7,7 +7,8 @@ use lib.ListN.{length}
 use Rattle.rules.specs.Limits.{maxBps, noPlace}
 use Rattle.rules.specs.Choice.{below, atLeast, equal}
 use Rattle.rules.specs.Records.{Listed, listedOf}
-use Rattle.rules.specs.Numbers.{Fault, Faults, fault, inputFault, firstFault, bankFaults, Answer, refused, answered, unless, Decision, DecisionAndTrace, Verdict, whereEligible}
+use Rattle.rules.specs.Refused.{Fault, Faults, fault, inputFault, firstFault, bankFaults, Answer, refused, answered, unless}
+use Rattle.rules.specs.Numbers.{Decision, DecisionAndTrace, Verdict, whereEligible}
 use Rattle.rules.specs.Listing.{firstListed}
 use Rattle.rules.specs.Verdict.{Judged, judged, verdictOf}
 use Rattle.rules.specs.Rank.{Candidate, ranking}

@@ -9,7 +9,8 @@ use Rattle.rules.specs.Limits.{explanationBytes}
 use Rattle.rules.specs.Choice.{below, equal}
 use Rattle.rules.specs.Bytes.{Field, field, valueOf, packed}
 use Rattle.rules.specs.Records.{Listed, listedOf}
-use Rattle.rules.specs.Numbers.{Faults, bankFaults, roomFaults, listUnless, Answer, answered, unless, Decision}
+use Rattle.rules.specs.Refused.{Faults, bankFaults, roomFaults, listUnless, Answer, answered, unless}
+use Rattle.rules.specs.Numbers.{Decision}
 use Rattle.rules.specs.Verdict.{Judged, judged}
 use Rattle.rules.specs.Decide.{stoppedBy, decisionOf}
 use Rattle.rules.specs.declared.records.KernelInput.{KernelInput}

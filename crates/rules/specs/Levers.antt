@@ -9,7 +9,8 @@ use lib.IntN.{pos}
 use Rattle.rules.specs.Limits.{ppm, noPlace}
 use Rattle.rules.specs.Choice.{equal}
 use Rattle.rules.specs.Records.{Listed, listed}
-use Rattle.rules.specs.Numbers.{Fault, noFault, Decision, isRejection, Entry, Boundary}
+use Rattle.rules.specs.Refused.{Fault, noFault}
+use Rattle.rules.specs.Numbers.{Decision, isRejection, Entry, Boundary}
 use Rattle.rules.specs.Price.{scaledPrice}
 use Rattle.rules.specs.Decide.{decisionOf}
 use Rattle.rules.specs.declared.records.KernelModel.{KernelModel}

@@ -4,6 +4,7 @@ pub mod Choice
 pub mod Bytes
 pub mod Wide
 pub mod Records
+pub mod Refused
 pub mod Numbers
 pub mod Listing
 pub mod Gates

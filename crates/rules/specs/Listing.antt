@@ -5,7 +5,7 @@ use mathlib.Core.Option.{Option, none, some}
 use lib.ListN.{length}
 use Rattle.rules.specs.Choice.{below, equal}
 use Rattle.rules.specs.Records.{Listed, listedOf, recordsIn, recordPart}
-use Rattle.rules.specs.Numbers.{Fault, Faults, fault, firstFault, bankFaults, Answer, answered, unless}
+use Rattle.rules.specs.Refused.{Fault, Faults, fault, firstFault, bankFaults, Answer, answered, unless}
 
 -- N8. Reading a record: the place is beyond the bank
 unfoldable pub readingFaults : List ℕ → ℕ → Faults

@@ -6,7 +6,8 @@ use mathlib.Core.Option.{Option, none, some}
 use Rattle.rules.specs.Limits.{maxU32, ppm, maxPriceScale}
 use Rattle.rules.specs.Choice.{pick}
 use Rattle.rules.specs.Records.{Listed, listedOf}
-use Rattle.rules.specs.Numbers.{fault, bankFaults, Decision, isRejection, Boundary}
+use Rattle.rules.specs.Refused.{fault, bankFaults}
+use Rattle.rules.specs.Numbers.{Decision, isRejection, Boundary}
 use Rattle.rules.specs.Decide.{decisionOf}
 use Rattle.rules.specs.Listing.{firstListed}
 use Rattle.rules.specs.Halving.{Lowest, Highest, searchOf, searchAfterFarEnd}

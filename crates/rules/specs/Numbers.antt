@@ -1,23 +1,14 @@
 -- Document 01, "Numbers handed back": what each case of an enum is called there.
-use Prim.Native.Nat.{ℕ, _%_}
+use Prim.Native.Nat.{ℕ}
 use mathlib.Core.Bool.{Bool}
-use mathlib.Core.List.{List, [], _∷_, _++_, map}
+use mathlib.Core.List.{List, map}
 use mathlib.Core.Option.{Option, none, some}
 use lib.Dec.{eqb}
 use lib.IntN.{ℤ, pos}
-use lib.ListN.{length}
-use Rattle.rules.specs.Limits.{recordBytes, maxCatalogModels}
-use Rattle.rules.specs.Choice.{below, equal}
-use Rattle.rules.specs.Bytes.{filled}
-use Rattle.rules.specs.Records.{recordsIn}
+use Rattle.rules.specs.Choice.{equal}
 use Rattle.rules.specs.Wide.{val}
 use Rattle.rules.specs.declared.records.KernelInput.{KernelInput}
 use Rattle.rules.specs.declared.records.PolicySnapshot.{PolicySnapshot}
-use Rattle.rules.specs.declared.refusal.Refusal.{Refusal}
-use Rattle.rules.specs.declared.refusal.Refusal.the-variants as refusal
-use Rattle.rules.specs.declared.refusal.Outcome.{Outcome}
-use Rattle.rules.specs.declared.refusal.Outcome.the-variants as outcome
-use Rattle.rules.specs.declared.refusal.Trusted.{Trusted}
 use Rattle.rules.specs.declared.decision.KernelAction.{KernelAction}
 use Rattle.rules.specs.declared.decision.KernelAction.the-variants as action
 use Rattle.rules.specs.declared.decision.KernelReason.{KernelReason}
@@ -47,101 +38,7 @@ use Rattle.rules.specs.declared.boundary.BoundaryCost.{BoundaryCost}
 use Rattle.rules.specs.declared.boundary.BoundaryCost.the-variants as cost
 use Rattle.rules.specs.declared.boundary.Requirement.{Requirement}
 use Rattle.rules.specs.declared.boundary.Boundaries.{Boundaries}
-
--- ---- refusals
-
--- A number handed back, with its values; a value that the number doesn't carry is 0
-pub record Fault : Type 0 where
-  pub number : ℕ
-  pub field : ℕ
-  pub value : ℕ
-  pub id : ℕ
-  pub place : ℕ
-
--- N1. A number alone; 0 stands for no refusal
-abbrev pub fault : ℕ → Fault
-fault n = record { number = n; field = 0; value = 0; id = 0; place = 0 }
-
-abbrev pub noFault : Fault
-noFault = fault 0
-
--- N3, N10, N12, N13, N14 and N17: those that carry values
-abbrev pub inputFault : ℕ → ℕ → ℕ → Fault
-inputFault field value place = record { number = 3; field = field; value = value; id = 0; place = place }
-
-abbrev pub policyFault : ℕ → ℕ → Fault
-policyFault field value = record { number = 10; field = field; value = value; id = 0; place = 0 }
-
-abbrev pub modelFault : ℕ → ℕ → ℕ → ℕ → Fault
-modelFault n field id value = record { number = n; field = field; value = value; id = id; place = 0 }
-
-abbrev pub toldRefusal : Refusal → Fault
-toldRefusal refusal.UnevenBank = fault 1
-toldRefusal refusal.CatalogTooLarge = fault 2
-toldRefusal (refusal.InputOutOfRange field value place) = inputFault field value place
-toldRefusal refusal.NoRoom = fault 4
-toldRefusal refusal.UnknownModel = fault 5
-toldRefusal refusal.NothingSelected = fault 6
-toldRefusal refusal.NotEligible = fault 7
-toldRefusal refusal.BeyondBank = fault 8
-toldRefusal (refusal.PolicyOutOfRange field value) = policyFault field value
-toldRefusal refusal.EmptyCatalog = fault 11
-toldRefusal (refusal.DuplicateModelId id) = modelFault 12 0 id 0
-toldRefusal (refusal.InvalidProviderId id provider) = modelFault 13 0 id provider
-toldRefusal (refusal.ModelOutOfRange field id value) = modelFault 14 field id value
-toldRefusal refusal.NoEnabledModels = fault 15
-toldRefusal refusal.ReservedModelId = fault 16
-toldRefusal (refusal.InvalidEnabledFlag id value) = modelFault 17 0 id value
-toldRefusal refusal.TooManyToStore = fault 18
-toldRefusal refusal.TooManyForProgram = fault 19
-toldRefusal refusal.CutShort = fault 20
-toldRefusal refusal.WrongTag = fault 21
-toldRefusal refusal.WrongLength = fault 22
-
-abbrev pub toldOutcome : Outcome → Fault
-toldOutcome outcome.Answered = noFault
-toldOutcome (outcome.Refused r) = toldRefusal r
-
-abbrev pub toldTrusted : Trusted → Fault
-toldTrusted t = toldOutcome (t .outcome)
-
--- The tests of a call are lists: empty, or the one number that a test hands back. Joined in document 01's order, the first one counts
-abbrev pub Faults : Type 0
-Faults = List Fault
-
--- N1, N2. A bank whose length is no multiple of a record's; one with too many records
-unfoldable pub lengthFaults : ℕ → Faults
-lengthFaults n =
-    equal (n % recordBytes) 0 [] (fault 1 ∷ []) ++ below maxCatalogModels (recordsIn n) (fault 2 ∷ []) []
-
-abbrev pub bankFaults : List ℕ → Faults
-bankFaults bank = lengthFaults (length bank)
-
--- N4. A list, row or buffer with so much room, where so much is needed
-unfoldable pub roomFaults : ℕ → ℕ → Faults
-roomFaults needed room = below room needed (fault 4 ∷ []) []
-
--- B9, N24. A list, row or buffer at exit: filled, or as it was where there is a fault
-abbrev pub listUnless : {A : Type 0} → Faults → List A → List A → List A
-listUnless [] new list = filled new list
-listUnless (f ∷ fs) new list = list
-
--- ---- answers
-
--- The answer of a call: a refusal, or what it answers
-pub data Answer (A : Type 0) : Type 0 where
-  refused : Fault → Answer A
-  answered : A → Answer A
-
--- The first fault, or the answer where there is none
-abbrev pub unless : {A : Type 0} → Faults → Answer A → Answer A
-unless [] a = a
-unless (f ∷ fs) a = refused f
-
--- The first fault alone
-abbrev pub firstFault : Faults → Fault
-firstFault [] = noFault
-firstFault (f ∷ fs) = f
+use Rattle.rules.specs.Refused.{Fault, toldRefusal, toldOutcome, Answer, refused, answered}
 
 -- ---- decisions
 

@@ -6,7 +6,8 @@ use lib.ListN.{length, take}
 use Rattle.rules.specs.Limits.{maxProgramModels}
 use Rattle.rules.specs.Choice.{below}
 use Rattle.rules.specs.Records.{Listed, policyOf, inputOf, recordsIn, listedOf}
-use Rattle.rules.specs.Numbers.{Fault, Faults, fault, roomFaults, listUnless, Answer, answered, unless, Decision, Entry, Boundary}
+use Rattle.rules.specs.Refused.{Fault, Faults, fault, roomFaults, listUnless, Answer, answered, unless}
+use Rattle.rules.specs.Numbers.{Decision, Entry, Boundary}
 use Rattle.rules.specs.Listing.{firstListed}
 use Rattle.rules.specs.Decide.{decisionOf, countsIn, requestFaults}
 use Rattle.rules.specs.Win.{winIn}

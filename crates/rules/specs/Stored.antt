@@ -8,7 +8,8 @@ use Rattle.rules.specs.Limits.{policyBytes, fieldHeaderBytes, storedReco
 use Rattle.rules.specs.Choice.{below, equal}
 use Rattle.rules.specs.Bytes.{field, bytesOf, valueOf}
 use Rattle.rules.specs.Records.{policyOf, policyInBytes, inputOf, inputBytes, recordsIn}
-use Rattle.rules.specs.Numbers.{Faults, fault, bankFaults, roomFaults, listUnless, Answer, answered, unless, StoredPolicy}
+use Rattle.rules.specs.Refused.{Faults, fault, bankFaults, roomFaults, listUnless, Answer, answered, unless}
+use Rattle.rules.specs.Numbers.{StoredPolicy}
 use Rattle.rules.specs.declared.records.KernelInput.{KernelInput}
 use Rattle.rules.specs.declared.records.PolicySnapshot.{PolicySnapshot}
 

@@ -5,7 +5,7 @@ use lib.ListN.{length}
 use Rattle.rules.specs.Limits.{maxBps, maxRiskMultiplier, maxProviderId}
 use Rattle.rules.specs.Choice.{below, equal}
 use Rattle.rules.specs.Records.{Listed, listedOf}
-use Rattle.rules.specs.Numbers.{Fault, Faults, fault, policyFault, modelFault, firstFault, bankFaults}
+use Rattle.rules.specs.Refused.{Fault, Faults, fault, policyFault, modelFault, firstFault, bankFaults}
 use Rattle.rules.specs.declared.records.KernelModel.{KernelModel}
 use Rattle.rules.specs.declared.records.PolicySnapshot.{PolicySnapshot}
 

@@ -4,7 +4,8 @@ use mathlib.Core.Bool.{Bool, false}
 use mathlib.Core.List.{List}
 use lib.ListN.{set}
 use Rattle.rules.specs.Records.{Listed, listed, listedOf}
-use Rattle.rules.specs.Numbers.{bankFaults, Answer, refused, answered, unless, Decision}
+use Rattle.rules.specs.Refused.{bankFaults, Answer, refused, answered, unless}
+use Rattle.rules.specs.Numbers.{Decision}
 use Rattle.rules.specs.Decide.{decisionOf}
 use Rattle.rules.specs.Levers.{selects}
 use Rattle.rules.specs.declared.records.KernelModel.{KernelModel}

@@ -7,7 +7,8 @@ use lib.Dec.{eqb}
 use Rattle.rules.specs.Limits.{maxBps, ppm}
 use Rattle.rules.specs.Choice.{pick}
 use Rattle.rules.specs.Records.{Listed, listedOf}
-use Rattle.rules.specs.Numbers.{fault, bankFaults, Decision, Boundary}
+use Rattle.rules.specs.Refused.{fault, bankFaults}
+use Rattle.rules.specs.Numbers.{Decision, Boundary}
 use Rattle.rules.specs.Decide.{stoppedBy, decisionOf}
 use Rattle.rules.specs.Listing.{firstListed}
 use Rattle.rules.specs.Halving.{Lowest, Highest, searchOf}

@@ -1,6 +1,6 @@
 // Why a call is refused: a case for each of document 01's numbers, with that number's values.
 ghost use mathlib.Core.Path.{_≡_};
-ghost use Rattle.rules.specs.Numbers.{toldRefusal};
+ghost use Rattle.rules.specs.Refused.{toldRefusal};
 
 pub enum Refusal {
     // 1: the bank's length is no multiple of a record's.

@@ -1,6 +1,6 @@
 -- The records of a part of a bank: how many there are, which they are, and what two parts come to. Assumes nothing.
 use Prim.Native.Nat.{ℕ, zero, suc, _+_, _-_, _*_, _/_, _<_, _≤_}
-use native.Mathlib.Nat.{add-zero, zero-add, add-suc, suc-add, le-of-suc-le-suc, not-suc-le-zero}
+use native.Mathlib.Nat.{add-zero, zero-add, le-of-suc-le-suc, not-suc-le-zero}
 use native.Mathlib.Omega.{arith}
 use mathlib.Core.Path.{_≡_, refl, sym, ap, _∙_}
 use mathlib.Core.Bool.{Bool, true, false}
@@ -10,12 +10,8 @@ use lib.Dec.{ltb}
 use lib.ListN.{length, getD, take, drop, set, length-append, length-map, length-drop, take-append-drop, List·getD-append, List·getD-map}
 use lib.Seq.{length-take-le, take-append-le, drop-append-le, drop-append-add, drop-drop, getD-append-add, ext-getD, set-at, take-all}
 use Rattle.rules.specs.Records.{Listed, listed, listedOf, modelOf, modelAt}
-use Rattle.bank.proofs.Listing.{length-listed, listed-at}
+use Rattle.bank.proofs.Listing.{length-listed, listed-at, nowhere}
 use Rattle.scan.specs.Places.{onward, placedFrom}
-
--- What stands past the end of a list of records
-abbrev pub nowhere : Listed
-nowhere = listed 0 (modelOf [])
 
 -- A PART'S RECORDS: as many, each so many places further on
 pub length-placed : (first : ℕ) (part : List ℕ) → length (placedFrom first part) ≡ length part / 47

@@ -17,7 +17,8 @@ use Rattle.scan.specs.Places.{placedFrom}
 use Rattle.ranking.specs.Verdict.{verdictIn, afterOf, scanOf}
 use Rattle.ranking.specs.declared.state.State.{State}
 use Rattle.ranking.specs.declared.verdict.Verdict.{Verdict}
-use Rattle.scan.proofs.Places.{nowhere, length-placed, getD-placed}
+use Rattle.scan.proofs.Places.{length-placed, getD-placed}
+use Rattle.bank.proofs.Listing.{nowhere}
 use Rattle.ranking.proofs.Verdicts.{scan-append, scan-one, scan-sum}
 
 -- s is what the first i records of the part come to

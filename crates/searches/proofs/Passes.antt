@@ -1,10 +1,11 @@
 -- A pass through a view of the lent bank is the decision with the lever at the value. Assumes nothing.
 use Prim.Native.Nat.{ℕ}
-use mathlib.Core.Path.{_≡_, refl, sym, ap, _∙_}
+use mathlib.Core.Path.{_≡_, _∙_}
 use mathlib.Core.List.{List}
 use native.Mathlib.Omega.{arith}
 use Rattle.rules.specs.Records.{listedOf}
-use Rattle.rules.specs.Numbers.{Fault, refused, answered, Decision}
+use Rattle.rules.specs.Refused.{Fault, refused, answered}
+use Rattle.rules.specs.Numbers.{Decision}
 use Rattle.rules.specs.Decide.{decisionOf}
 use Rattle.rules.specs.Levers.{leverAt, decisionAt}
 use Rattle.rules.specs.View.{withModel, viewOf}

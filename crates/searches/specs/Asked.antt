@@ -4,7 +4,7 @@ use mathlib.Core.Path.{_≡_}
 use mathlib.Core.List.{List, []}
 use mathlib.Core.Option.{some}
 use Rattle.rules.specs.Records.{listedOf, modelAt}
-use Rattle.rules.specs.Numbers.{bankFaults}
+use Rattle.rules.specs.Refused.{bankFaults}
 use Rattle.rules.specs.Listing.{firstListed, placeOf}
 use Rattle.rules.specs.Levers.{Question}
 use Rattle.rules.specs.declared.records.KernelInput.{KernelInput}

@@ -7,7 +7,8 @@ ghost use Rattle.rules.specs.Limits.{ppm};
 ghost use Rattle.rules.specs.Numbers.{toldCost, toldEntry};
 ghost use Rattle.rules.specs.Text.{decimal};
 ghost use Rattle.rules.specs.Words.{sentence, percent, riseWords, latencyWords, costWords, priceWords, leverWords, leversWords};
-ghost use Rattle.splice.specs.Written.{Written};
+ghost use mathlib.Core.Option.{some};
+ghost use Rattle.splice.specs.Placed.{placed};
 ghost use Rattle.sentences.specs.Parts.{fallWords};
 use rules::BoundaryCost;
 use rules::Levers;
@@ -23,7 +24,7 @@ const LEVERS: usize = 4;
 // A number.
 fn put_number(out: &mut [u8], at: usize, n: u64) -> usize
     requires { ⌜ at + 20 ≤ length (now out) ⌝ }
-    ensures { λ r. ⌜ Written (now (out .entry)) at (decimal n) (now (out .exit)) r ⌝ }
+    ensures { λ r. ⌜ some (r, now (out .exit)) ≡ placed (now (out .entry)) at (decimal n) ⌝ }
     ensures { λ r. ⌜ r ≤ at + 20 ⌝ }
 {
     put_decimal(out, at, n)
@@ -32,7 +33,7 @@ fn put_number(out: &mut [u8], at: usize, n: u64) -> usize
 // Some words, a number, and more words.
 fn put_about(out: &mut [u8], at: usize, before: &[u8], n: u64, after: &[u8]) -> usize
     requires { ⌜ at + (length (now before) + 20 + length (now after)) ≤ length (now out) ⌝ }
-    ensures { λ r. ⌜ Written (now (out .entry)) at (now (before .entry) ++ decimal n ++ now (after .entry)) (now (out .exit)) r ⌝ }
+    ensures { λ r. ⌜ some (r, now (out .exit)) ≡ placed (now (out .entry)) at (now (before .entry) ++ decimal n ++ now (after .entry)) ⌝ }
     ensures { λ r. ⌜ r ≤ at + (length (now (before .entry)) + 20 + length (now (after .entry))) ⌝ }
 {
     let number = put_text(out, at, before);
@@ -43,7 +44,7 @@ fn put_about(out: &mut [u8], at: usize, before: &[u8], n: u64, after: &[u8]) -> 
 // A sentence of them.
 pub fn put_remark(out: &mut [u8], at: usize, before: &[u8], n: u64, after: &[u8]) -> usize
     requires { ⌜ at + (length (now before) + 21 + length (now after)) ≤ length (now out) ⌝ }
-    ensures { λ r. ⌜ Written (now (out .entry)) at (sentence (now (before .entry) ++ decimal n ++ now (after .entry))) (now (out .exit)) r ⌝ }
+    ensures { λ r. ⌜ some (r, now (out .exit)) ≡ placed (now (out .entry)) at (sentence (now (before .entry) ++ decimal n ++ now (after .entry))) ⌝ }
     ensures { λ r. ⌜ r ≤ at + (length (now (before .entry)) + 21 + length (now (after .entry))) ⌝ }
 {
     let end = put_about(out, at, before, n, after);
@@ -53,7 +54,7 @@ pub fn put_remark(out: &mut [u8], at: usize, before: &[u8], n: u64, after: &[u8]
 // Quality and ceiling must rise.
 fn put_rise(out: &mut [u8], at: usize, name: &[u8], lever: Requirement) -> usize
     requires { ⌜ at + (length (now name) + 120) ≤ length (now out) ⌝ }
-    ensures { λ r. ⌜ Written (now (out .entry)) at (riseWords (now (name .entry)) (toldEntry lever)) (now (out .exit)) r ⌝ }
+    ensures { λ r. ⌜ some (r, now (out .exit)) ≡ placed (now (out .entry)) at (riseWords (now (name .entry)) (toldEntry lever)) ⌝ }
     ensures { λ r. ⌜ r ≤ at + (length (now (name .entry)) + 120) ⌝ }
 {
     let middle = b" basis points today; it must rise to at least ";
@@ -65,7 +66,7 @@ fn put_rise(out: &mut [u8], at: usize, name: &[u8], lever: Requirement) -> usize
 // The latency must fall.
 fn put_latency(out: &mut [u8], at: usize, lever: Requirement) -> usize
     requires { ⌜ at + 120 ≤ length (now out) ⌝ }
-    ensures { λ r. ⌜ Written (now (out .entry)) at (latencyWords (toldEntry lever)) (now (out .exit)) r ⌝ }
+    ensures { λ r. ⌜ some (r, now (out .exit)) ≡ placed (now (out .entry)) at (latencyWords (toldEntry lever)) ⌝ }
     ensures { λ r. ⌜ r ≤ at + 120 ⌝ }
 {
     let middle = b" ms today; it must fall to at most ";
@@ -84,7 +85,7 @@ fn last_digit(n: u64) -> u8
 // Millionths as percent.
 fn put_percent(out: &mut [u8], at: usize, n: u64) -> usize
     requires { ⌜ at + 33 ≤ length (now out) ⌝ }
-    ensures { λ r. ⌜ Written (now (out .entry)) at (percent n) (now (out .exit)) r ⌝ }
+    ensures { λ r. ⌜ some (r, now (out .exit)) ≡ placed (now (out .entry)) at (percent n) ⌝ }
     ensures { λ r. ⌜ r ≤ at + 33 ⌝ }
 {
     let digits = [
@@ -112,7 +113,7 @@ fn fall(boundary: u64) -> u64
 // The price must fall: by how much, and to what.
 fn put_fall(out: &mut [u8], at: usize, boundary: u64) -> usize
     requires { ⌜ at + 125 ≤ length (now out) ⌝ }
-    ensures { λ r. ⌜ Written (now (out .entry)) at (fallWords boundary) (now (out .exit)) r ⌝ }
+    ensures { λ r. ⌜ some (r, now (out .exit)) ≡ placed (now (out .entry)) at (fallWords boundary) ⌝ }
     ensures { λ r. ⌜ r ≤ at + 125 ⌝ }
 {
     let named = put_text(
@@ -128,7 +129,7 @@ fn put_fall(out: &mut [u8], at: usize, boundary: u64) -> usize
 // What the request then costs.
 fn put_then(out: &mut [u8], at: usize, cost: BoundaryCost) -> usize
     requires { ⌜ at + 60 ≤ length (now out) ⌝ }
-    ensures { λ r. ⌜ Written (now (out .entry)) at (costWords (toldCost cost)) (now (out .exit)) r ⌝ }
+    ensures { λ r. ⌜ some (r, now (out .exit)) ≡ placed (now (out .entry)) at (costWords (toldCost cost)) ⌝ }
     ensures { λ r. ⌜ r ≤ at + 60 ⌝ }
 {
     match cost {
@@ -142,7 +143,7 @@ fn put_then(out: &mut [u8], at: usize, cost: BoundaryCost) -> usize
 // The price must fall, and what the request then costs.
 fn put_price(out: &mut [u8], at: usize, lever: Requirement) -> usize
     requires { ⌜ at + 186 ≤ length (now out) ⌝ }
-    ensures { λ r. ⌜ Written (now (out .entry)) at (priceWords (toldEntry lever)) (now (out .exit)) r ⌝ }
+    ensures { λ r. ⌜ some (r, now (out .exit)) ≡ placed (now (out .entry)) at (priceWords (toldEntry lever)) ⌝ }
     ensures { λ r. ⌜ r ≤ at + 186 ⌝ }
 {
     let cost = lever.cost_at_boundary_microunits;
@@ -154,7 +155,7 @@ fn put_price(out: &mut [u8], at: usize, lever: Requirement) -> usize
 // The sentence of a lever of a model with an id.
 fn put_lever_words(out: &mut [u8], at: usize, id: u32, lever: Requirement) -> usize
     requires { ⌜ at + 200 ≤ length (now out) ⌝ }
-    ensures { λ r. ⌜ Written (now (out .entry)) at (leverWords id (toldEntry lever)) (now (out .exit)) r ⌝ }
+    ensures { λ r. ⌜ some (r, now (out .exit)) ≡ placed (now (out .entry)) at (leverWords id (toldEntry lever)) ⌝ }
     ensures { λ r. ⌜ r ≤ at + 200 ⌝ }
 {
     if lever.lever == 1 {
@@ -176,7 +177,7 @@ fn put_lever_words(out: &mut [u8], at: usize, id: u32, lever: Requirement) -> us
 // The sentences of an answer's first levers.
 pub fn put_levers_words(out: &mut [u8], at: usize, id: u32, levers: Levers) -> usize
     requires { ⌜ at + 800 ≤ length (now out) ⌝ }
-    ensures { λ r. ⌜ Written (now (out .entry)) at (leversWords id (take (levers .count) (map toldEntry (levers .levers)))) (now (out .exit)) r ⌝ }
+    ensures { λ r. ⌜ some (r, now (out .exit)) ≡ placed (now (out .entry)) at (leversWords id (take (levers .count) (map toldEntry (levers .levers)))) ⌝ }
 {
     let mut i = 0;
     let mut next = at;

@@ -1,16 +1,22 @@
 -- Pieces written into a buffer: none, one, and one more; and what stands there then. Assumes nothing.
 use Prim.Native.Nat.{ℕ, _+_, _≤_, _<_}
-use mathlib.Core.Path.{_≡_, sym, ap, subst, _∙_}
+use mathlib.Core.Path.{_≡_, refl, sym, ap, subst, _∙_}
+use mathlib.Core.Bool.{Bool, true, false, cond}
 use mathlib.Core.List.{List, [], _++_, append-assoc}
+use mathlib.Core.Option.{Option, none, some, Option·some-injective, Option·none-ne-some}
 use native.Mathlib.Omega.{arith}
 use native.Mathlib.Nat.{zero-add, add-zero}
 use native.Mathlib.Numerals.{add-one}
 use lib.ListN.{length, take, drop, set, getD, length-append, take-append-drop}
+use lib.Dec.{leb}
 use lib.Seq.{take-at, take-length, paste, paste-zero, paste-suc}
 use Rattle.rules.specs.Bytes.{filled}
 use Rattle.endian.specs.Put.{patched}
 use Rattle.endian.proofs.Stored.{length-patched, patch-join}
-use Rattle.splice.specs.Written.{Written}
+use borrow.Author.Tests.{leb-true}
+use Rattle.rules.specs.Choice.{atLeast}
+use Rattle.rules.proofs.Choices.{atLeast-yes}
+use Rattle.splice.specs.Placed.{placed}
 
 -- ---- one piece, byte by byte
 
@@ -32,6 +38,32 @@ unfolding copied patched
 copied-all out at bytes i e = rw (e, take-length) (append-assoc (take at out) bytes (drop (at + length bytes) out))
 
 -- ---- pieces one after the other
+
+-- What a writer's promise says: there was room for the bytes, the next position is the one after them, and the buffer is as it was but for them
+pub record Written (before : List ℕ) (at : ℕ) (bytes after : List ℕ) (next : ℕ) : Type 0 where
+  pub room : at + length bytes ≤ length before
+  pub ends : next ≡ at + length bytes
+  pub is : after ≡ patched before at bytes
+
+-- IT SAYS JUST THAT: from the promise to its three parts
+pub written : (d : List ℕ) (at : ℕ) (bytes : List ℕ) {e : List ℕ} {next : ℕ} → some (next, e) ≡ placed d at bytes → Written d at bytes e next
+unfolding placed atLeast
+written d at bytes {e} {next} w = go (leb (at + length bytes) (length d)) refl w
+  where
+    go : (t : Bool) → leb (at + length bytes) (length d) ≡ t
+        → _≡_ {A = Option (ℕ × List ℕ)} (some (next, e)) (cond t (some (at + length bytes, patched d at bytes)) none) → Written d at bytes e next
+    go true h p =
+        let q = Option·some-injective (next, e) (at + length bytes, patched d at bytes) p in
+        record { room = leb-true (at + length bytes) (length d) h; ends = ap (λ (x : ℕ × List ℕ). x .0) q; is = ap (λ (x : ℕ × List ℕ). x .1) q }
+    go false h p = absurd (Option·none-ne-some (next, e) (sym p))
+
+-- and from the parts to the promise
+pub promised : {d e bytes : List ℕ} {at next : ℕ} → Written d at bytes e next → some (next, e) ≡ placed d at bytes
+unfolding placed
+promised {d} {e} {bytes} {at} {next} w =
+    ap (λ (x : ℕ). some (x, e)) (w .ends)
+    ∙ ap (λ (x : List ℕ). some (at + length bytes, x)) (w .is)
+    ∙ sym (atLeast-yes (length d) (at + length bytes) _ _ (w .room))
 
 -- NOTHING WRITTEN leaves the buffer
 pub written-none : (d : List ℕ) (at : ℕ) → at ≤ length d → Written d at [] d at
@@ -59,6 +91,9 @@ written-then {d} {e} {g} {a} {b} {at} {next} {last} p q =
 -- The same bytes, said otherwise
 pub written-as : {d e a b : List ℕ} {at next : ℕ} → Written d at a e next → a ≡ b → Written d at b e next
 written-as {d} {e} {a} {b} {at} {next} w p = subst (λ (x : List ℕ). Written d at x e next) p w
+
+pub promised-as : {d e a b : List ℕ} {at next : ℕ} → Written d at a e next → a ≡ b → some (next, e) ≡ placed d at b
+promised-as w p = promised (written-as w p)
 
 -- ---- at the start of a buffer
 

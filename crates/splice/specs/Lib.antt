@@ -1,2 +1,2 @@
 -- What a function that writes at a position of a buffer promises.
-pub mod Written
+pub mod Placed

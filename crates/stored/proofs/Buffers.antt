@@ -5,14 +5,13 @@ use mathlib.Core.List.{List, [], _∷_}
 use native.Mathlib.Omega.{arith}
 use lib.ListN.{length}
 use Rattle.rules.specs.Bytes.{filled}
-use Rattle.rules.specs.Numbers.{Faults, listUnless, toldRefusal, Answer, refused, answered, unless}
+use Rattle.rules.specs.Refused.{Faults, listUnless, toldRefusal, Answer, refused, answered, unless}
 use Rattle.rules.specs.declared.refusal.Refusal.{Refusal}
 use Rattle.rules.specs.declared.refusal.Outcome.{Outcome}
 use Rattle.rules.specs.declared.refusal.Outcome.the-variants.{Refused}
 use Rattle.rules.proofs.Faults.{some-fault}
-use Rattle.kernel.specs.Refuse.{leading, toldLeading}
-use Rattle.splice.specs.Written.{Written}
-use Rattle.splice.proofs.Pieces.{written-filled}
+use Rattle.outset.specs.Refuse.{leading, toldLeading}
+use Rattle.splice.proofs.Pieces.{written-filled, Written}
 
 -- NOTHING REFUSES: the call answers, and the buffer is filled
 pub passes : {A : Type 0} (fs : Faults) (a : Answer A) → fs ≡ [] → a ≡ unless fs a

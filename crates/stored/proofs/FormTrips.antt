@@ -11,14 +11,14 @@ use mir.Val.{SFits}
 use Rattle.rules.specs.Limits.{fieldHeaderBytes, recordBytes, maxCatalogModels, maxStoredModels}
 use Rattle.rules.specs.Choice.{below, equal}
 use Rattle.rules.specs.Records.{policyLayout, policyNumbers, policyOf, policyInBytes, requestLayout, inputNumbers, inputOf, inputBytes, recordsIn}
-use Rattle.rules.specs.Numbers.{fault, lengthFaults}
+use Rattle.rules.specs.Refused.{fault, lengthFaults}
 use Rattle.rules.specs.Stored.{fieldBytes, fits, bodyLength, bodyOf, afterOf, formFaults, storedForm, writeFaults, storedPolicy, storedBank, requestForm}
 use Rattle.rules.specs.declared.records.KernelInput.{KernelInput}
 use Rattle.rules.specs.declared.records.PolicySnapshot.{PolicySnapshot}
 use Rattle.rules.proofs.Choices.{below-no, equal-yes}
 use Rattle.endian.proofs.Numbers.{Small, small-take, small-drop}
-use Rattle.bank.proofs.Layouts.{Fitting}
-use Rattle.bank.proofs.Trips.{length-policy, length-input, policy-back, input-back, policy-forth, input-forth}
+use Rattle.packing.proofs.Layouts.{Fitting}
+use Rattle.packing.proofs.Trips.{length-policy, length-input, policy-back, input-back, policy-forth, input-forth}
 use Rattle.rules.proofs.Faults.{below-none, equal-none, none-after, none-first, room-enough}
 use Rattle.stored.proofs.OneField.{Passed, body-length}
 use Rattle.stored.proofs.Forms.{form-passed}

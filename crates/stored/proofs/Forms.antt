@@ -12,7 +12,7 @@ use Rattle.rules.specs.declared.refusal.Refusal.{Refusal}
 use Rattle.rules.specs.declared.refusal.Refusal.the-variants as refusal
 use Rattle.rules.specs.declared.refusal.Outcome.the-variants as outcome
 use Rattle.rules.proofs.Choices.{equal-yes, equal-no}
-use Rattle.kernel.specs.Refuse.{leading, toldLeading}
+use Rattle.outset.specs.Refuse.{leading, toldLeading}
 use Rattle.stored.specs.Fields.{toldField, fieldOf}
 use Rattle.stored.specs.declared.fields.Field.{Field}
 use Rattle.stored.specs.declared.fields.Field.the-variants.{Body, Refused}

@@ -9,14 +9,14 @@ use lib.Dec.{eqb, ltb}
 use lib.ListN.{length, getD, length-take, length-drop}
 use Rattle.rules.specs.Choice.{below, equal}
 use Rattle.rules.specs.Limits.{fieldHeaderBytes}
-use Rattle.rules.specs.Numbers.{Faults, fault, refused, answered, unless, toldRefusal}
+use Rattle.rules.specs.Refused.{Faults, fault, refused, answered, unless, toldRefusal}
 use Rattle.rules.specs.Stored.{fits, tagOf, bodyLength, bodyOf, fieldFaults}
 use Rattle.rules.specs.declared.refusal.Refusal.{Refusal}
 use Rattle.rules.specs.declared.refusal.Refusal.the-variants as refusal
 use Rattle.rules.specs.declared.refusal.Outcome.the-variants as outcome
 use Rattle.rules.proofs.Choices.{below-yes, below-no, equal-yes, equal-no}
 use Rattle.endian.proofs.Numbers.{number-one}
-use Rattle.kernel.specs.Refuse.{leading, toldLeading}
+use Rattle.outset.specs.Refuse.{leading, toldLeading}
 use Rattle.stored.specs.Fields.{toldField, fieldOf, Whole}
 use Rattle.stored.specs.declared.fields.Field.{Field}
 use Rattle.stored.specs.declared.fields.Field.the-variants.{Body, Refused}

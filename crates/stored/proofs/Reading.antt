@@ -11,7 +11,7 @@ use Rattle.rules.specs.Limits.{policyBytes, storedRecordBytes, storedRequestByt
 use Rattle.rules.specs.Choice.{equal}
 use Rattle.rules.specs.Bytes.{filled}
 use Rattle.rules.specs.Records.{inputOf}
-use Rattle.rules.specs.Numbers.{roomFaults, answered}
+use Rattle.rules.specs.Refused.{roomFaults, answered}
 use Rattle.rules.specs.Stored.{fits, bodyOf, afterOf, formFaults, storedPolicy, storedBank, readFaults, readStoredOf, readStoredBuffer, readRequestOf}
 use Rattle.rules.specs.declared.records.KernelInput.{KernelInput}
 use Rattle.rules.specs.declared.records.PolicySnapshot.{PolicySnapshot}
@@ -20,8 +20,8 @@ use Rattle.rules.specs.declared.refusal.Refusal.the-variants as refusal
 use Rattle.rules.specs.declared.refusal.Outcome.{Outcome}
 use Rattle.rules.specs.declared.refusal.Outcome.the-variants.{Answered, Refused}
 use Rattle.endian.specs.Put.{patched}
-use Rattle.kernel.specs.Refuse.{leading, toldLeading}
-use Rattle.kernel.proofs.Refusals.{append-refused, none-told, room-short}
+use Rattle.outset.specs.Refuse.{leading, toldLeading}
+use Rattle.outset.proofs.Refusals.{append-refused, none-told, room-short}
 use Rattle.splice.proofs.Pieces.{patched-start}
 use Rattle.rules.proofs.Faults.{room-enough}
 use Rattle.stored.proofs.Buffers.{passes, fills-in}

@@ -9,12 +9,13 @@ use mir.Syntax.{w64}
 use mir.Val.{SFits}
 use Rattle.rules.specs.Bytes.{filled}
 use Rattle.rules.specs.Records.{policyLayout, policyNumbers, requestLayout, inputNumbers}
-use Rattle.rules.specs.Numbers.{Faults, roomFaults, listUnless, answered, StoredPolicy}
+use Rattle.rules.specs.Refused.{Faults, roomFaults, listUnless, answered}
+use Rattle.rules.specs.Numbers.{StoredPolicy}
 use Rattle.rules.specs.Stored.{formFaults, storedForm, writeFaults, writeStoredOf, writeStoredBuffer, storedPolicy, storedBank, readFaults, readStoredOf, readStoredBuffer, requestForm, writeRequestOf, writeRequestBuffer, readRequestOf}
 use Rattle.rules.specs.declared.records.KernelInput.{KernelInput}
 use Rattle.rules.specs.declared.records.PolicySnapshot.{PolicySnapshot}
 use Rattle.endian.proofs.Numbers.{Small}
-use Rattle.bank.proofs.Layouts.{Fitting}
+use Rattle.packing.proofs.Layouts.{Fitting}
 use Rattle.splice.proofs.Pieces.{patched-start}
 use Rattle.rules.proofs.Faults.{none-first, room-enough, some-fault}
 use Rattle.stored.proofs.Buffers.{none-answered, passes, fills-in}

@@ -7,7 +7,7 @@ use lib.Dec.{eqb, ltb}
 use lib.ListN.{length}
 use Rattle.rules.specs.Limits.{fieldHeaderBytes}
 use Rattle.rules.specs.Choice.{below, equal}
-use Rattle.rules.specs.Numbers.{Fault, Faults, fault, roomFaults, Answer, refused, answered, unless}
+use Rattle.rules.specs.Refused.{Fault, Faults, fault, roomFaults, Answer, refused, answered, unless}
 use Rattle.rules.specs.Stored.{fits, tagOf, bodyLength, afterOf, fieldFaults, formFaults, storedBank, readFaults, readStoredOf, readRequestOf}
 
 -- ---- the numbers

@@ -7,7 +7,7 @@ use lib.ListN.{length, length-append}
 use Rattle.rules.specs.Limits.{fieldHeaderBytes, policyBytes, maxStoredModels, storedRequestBytes}
 use Rattle.rules.specs.Choice.{below}
 use Rattle.rules.specs.Records.{recordsIn}
-use Rattle.rules.specs.Numbers.{fault, lengthFaults, roomFaults}
+use Rattle.rules.specs.Refused.{fault, lengthFaults, roomFaults}
 use Rattle.rules.specs.Stored.{fieldBytes, storedForm, writeFaults, requestForm}
 use Rattle.rules.specs.declared.records.KernelInput.{KernelInput}
 use Rattle.rules.specs.declared.records.PolicySnapshot.{PolicySnapshot}
@@ -16,11 +16,11 @@ use Rattle.rules.specs.declared.refusal.Refusal.the-variants as refusal
 use Rattle.rules.specs.declared.refusal.Outcome.the-variants.{Answered, Refused}
 use Rattle.rules.proofs.Choices.{below-yes, below-no}
 use Rattle.endian.proofs.Numbers.{length-bytes}
-use Rattle.bank.proofs.Trips.{length-policy, length-input}
-use Rattle.kernel.specs.Refuse.{leading, toldLeading}
+use Rattle.packing.proofs.Trips.{length-policy, length-input}
+use Rattle.outset.specs.Refuse.{leading, toldLeading}
 use Rattle.stored.specs.Fields.{writingFaults}
 use Rattle.rules.proofs.Faults.{none-after, room-passed}
-use Rattle.kernel.proofs.Refusals.{none-told}
+use Rattle.outset.proofs.Refusals.{none-told}
 
 -- A field has its header before its body
 pub length-field : (tag : ℕ) (body : List ℕ) → length (fieldBytes tag body) ≡ fieldHeaderBytes + length body

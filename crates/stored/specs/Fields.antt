@@ -5,7 +5,7 @@ use lib.ListN.{length}
 use Rattle.rules.specs.Limits.{fieldHeaderBytes, policyBytes, maxStoredModels}
 use Rattle.rules.specs.Choice.{below}
 use Rattle.rules.specs.Records.{recordsIn}
-use Rattle.rules.specs.Numbers.{Faults, fault, lengthFaults, roomFaults, toldRefusal, Answer, refused, answered, unless}
+use Rattle.rules.specs.Refused.{Faults, fault, lengthFaults, roomFaults, toldRefusal, Answer, refused, answered, unless}
 use Rattle.rules.specs.Stored.{bodyLength, fieldFaults}
 use Rattle.stored.specs.declared.fields.Field.{Field}
 use Rattle.stored.specs.declared.fields.Field.the-variants.{Body, Refused}

@@ -4,8 +4,9 @@ ghost use Prim.Native.Nat.{_+_, _≤_};
 ghost use lib.ListN.{length};
 ghost use Rattle.rules.specs.Limits.{fieldHeaderBytes};
 ghost use Rattle.rules.specs.Stored.{fits as fitsTag, fieldBytes, bodyOf, afterOf, formFaults};
-ghost use Rattle.kernel.specs.Refuse.{leading, toldLeading};
-ghost use Rattle.splice.specs.Written.{Written};
+ghost use Rattle.outset.specs.Refuse.{leading, toldLeading};
+ghost use mathlib.Core.Option.{some};
+ghost use Rattle.splice.specs.Placed.{placed};
 ghost use Rattle.stored.specs.Fields.{toldField, fieldOf, Whole};
 use endian::u16_at;
 use rules::Outcome;
@@ -113,7 +114,7 @@ pub fn after_front(form: &[u8]) -> &[u8]
 // Puts a field into a buffer from a position on, and answers the position after it.
 pub fn put_field(out: &mut [u8], at: usize, tag: u8, body: &[u8]) -> usize
     requires { ⌜ at + (fieldHeaderBytes + length (now body)) ≤ length (now out) ⌝ }
-    ensures { λ r. ⌜ Written (now (out .entry)) at (fieldBytes tag (now (body .entry))) (now (out .exit)) r ⌝ }
+    ensures { λ r. ⌜ some (r, now (out .exit)) ≡ placed (now (out .entry)) at (fieldBytes tag (now (body .entry))) ⌝ }
 {
     let n = body.len();
     let high = n / 256;

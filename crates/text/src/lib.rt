@@ -5,7 +5,8 @@ ghost use mathlib.Core.List.{[], _∷_, map};
 ghost use Prim.Native.Nat.{_+_, _*_, _≤_, _<_};
 ghost use lib.ListN.{length};
 ghost use Rattle.rules.specs.Text.{decimal, signedDecimal, spaced, line};
-ghost use Rattle.splice.specs.Written.{Written};
+ghost use mathlib.Core.Option.{some};
+ghost use Rattle.splice.specs.Placed.{placed};
 use endian::bits;
 use splice::put_bytes;
 
@@ -17,7 +18,8 @@ const ALL_ONES: u64 = 18_446_744_073_709_551_615;
 // Puts some bytes.
 pub fn put_text(out: &mut [u8], at: usize, bytes: &[u8]) -> usize
     requires { ⌜ at + length (now bytes) ≤ length (now out) ⌝ }
-    ensures { λ r. ⌜ Written (now (out .entry)) at (now (bytes .entry)) (now (out .exit)) r ⌝ }
+    ensures { λ r. ⌜ some (r, now (out .exit)) ≡ placed (now (out .entry)) at (now (bytes .entry)) ⌝ }
+    ensures { λ r. ⌜ r ≡ at + length (now (bytes .entry)) ⌝ }
 {
     put_bytes(out, at, bytes);
     at + bytes.len()
@@ -26,7 +28,8 @@ pub fn put_text(out: &mut [u8], at: usize, bytes: &[u8]) -> usize
 // Puts one byte.
 pub fn put_byte(out: &mut [u8], at: usize, byte: u8) -> usize
     requires { ⌜ at < length (now out) ⌝ }
-    ensures { λ r. ⌜ Written (now (out .entry)) at (byte ∷ []) (now (out .exit)) r ⌝ }
+    ensures { λ r. ⌜ some (r, now (out .exit)) ≡ placed (now (out .entry)) at (byte ∷ []) ⌝ }
+    ensures { λ r. ⌜ r ≡ at + 1 ⌝ }
 {
     out[at] = byte;
     at + 1
@@ -43,7 +46,7 @@ fn digit(n: u64) -> u8
 // Puts a number in decimal digits: those of its tenth, then its last one.
 pub fn put_decimal(out: &mut [u8], at: usize, n: u64) -> usize
     requires { ⌜ at + length (decimal n) ≤ length (now out) ⌝ }
-    ensures { λ r. ⌜ Written (now (out .entry)) at (decimal n) (now (out .exit)) r ⌝ }
+    ensures { λ r. ⌜ some (r, now (out .exit)) ≡ placed (now (out .entry)) at (decimal n) ⌝ }
 {
     let last = digit(n % 10);
     if n < 10 {
@@ -56,7 +59,7 @@ pub fn put_decimal(out: &mut [u8], at: usize, n: u64) -> usize
 // Puts a signed number, a minus in front where it is negative.
 pub fn put_signed(out: &mut [u8], at: usize, n: i64) -> usize
     requires { ⌜ at + 20 ≤ length (now out) ⌝ }
-    ensures { λ r. ⌜ Written (now (out .entry)) at (signedDecimal n) (now (out .exit)) r ⌝ }
+    ensures { λ r. ⌜ some (r, now (out .exit)) ≡ placed (now (out .entry)) at (signedDecimal n) ⌝ }
     ensures { λ r. ⌜ r ≤ at + 20 ⌝ }
 {
     let pattern = bits(n);
@@ -70,7 +73,7 @@ pub fn put_signed(out: &mut [u8], at: usize, n: i64) -> usize
 // Puts a space and a number.
 pub fn put_word(out: &mut [u8], at: usize, n: u64) -> usize
     requires { ⌜ at + 21 ≤ length (now out) ⌝ }
-    ensures { λ r. ⌜ Written (now (out .entry)) at (spaced (decimal n ∷ [])) (now (out .exit)) r ⌝ }
+    ensures { λ r. ⌜ some (r, now (out .exit)) ≡ placed (now (out .entry)) at (spaced (decimal n ∷ [])) ⌝ }
     ensures { λ r. ⌜ r ≤ at + 21 ⌝ }
 {
     let next = put_text(out, at, b" ");
@@ -80,7 +83,7 @@ pub fn put_word(out: &mut [u8], at: usize, n: u64) -> usize
 // Puts a space and a signed number.
 pub fn put_signed_word(out: &mut [u8], at: usize, n: i64) -> usize
     requires { ⌜ at + 21 ≤ length (now out) ⌝ }
-    ensures { λ r. ⌜ Written (now (out .entry)) at (spaced (signedDecimal n ∷ [])) (now (out .exit)) r ⌝ }
+    ensures { λ r. ⌜ some (r, now (out .exit)) ≡ placed (now (out .entry)) at (spaced (signedDecimal n ∷ [])) ⌝ }
     ensures { λ r. ⌜ r ≤ at + 21 ⌝ }
 {
     let next = put_text(out, at, b" ");
@@ -90,7 +93,7 @@ pub fn put_signed_word(out: &mut [u8], at: usize, n: i64) -> usize
 // Puts a space before each number.
 pub fn put_words(out: &mut [u8], at: usize, ns: &[u64]) -> usize
     requires { ⌜ at + 21 * length (now ns) ≤ length (now out) ⌝ }
-    ensures { λ r. ⌜ Written (now (out .entry)) at (spaced (map decimal (now (ns .entry)))) (now (out .exit)) r ⌝ }
+    ensures { λ r. ⌜ some (r, now (out .exit)) ≡ placed (now (out .entry)) at (spaced (map decimal (now (ns .entry)))) ⌝ }
     ensures { λ r. ⌜ r ≤ at + 21 * length (now (ns .entry)) ⌝ }
 {
     let mut i = 0;
@@ -106,7 +109,7 @@ pub fn put_words(out: &mut [u8], at: usize, ns: &[u64]) -> usize
 // Puts a line: its name, its numbers, the line end.
 pub fn put_line(out: &mut [u8], at: usize, name: &[u8], ns: &[u64]) -> usize
     requires { ⌜ at + (length (now name) + 21 * length (now ns) + 1) ≤ length (now out) ⌝ }
-    ensures { λ r. ⌜ Written (now (out .entry)) at (line (now (name .entry)) (map decimal (now (ns .entry)))) (now (out .exit)) r ⌝ }
+    ensures { λ r. ⌜ some (r, now (out .exit)) ≡ placed (now (out .entry)) at (line (now (name .entry)) (map decimal (now (ns .entry)))) ⌝ }
     ensures { λ r. ⌜ r ≤ at + (length (now (name .entry)) + 21 * length (now (ns .entry)) + 1) ⌝ }
 {
     let named = put_text(out, at, name);

@@ -18,8 +18,8 @@ use Rattle.rules.specs.declared.records.KernelInput.{KernelInput}
 use Rattle.rules.specs.declared.records.PolicySnapshot.{PolicySnapshot}
 use Rattle.rules.specs.declared.decision.Prescribed.{Prescribed}
 use Rattle.rules.proofs.Told.{one-prescribed}
-use Rattle.bank.proofs.Layouts.{Fitting}
-use Rattle.bank.proofs.Trips.{length-model}
+use Rattle.packing.proofs.Layouts.{Fitting}
+use Rattle.packing.proofs.Trips.{length-model}
 use Rattle.scan.proofs.Places.{placed-all, placed-append, placed-set}
 use Rattle.view.specs.declared.View.{View}
 use Rattle.view.proofs.Standing.{stands-beyond, stands-inside}

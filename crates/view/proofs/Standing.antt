@@ -16,9 +16,9 @@ use Rattle.rules.specs.declared.records.KernelModel.{KernelModel}
 use Rattle.rules.specs.declared.decision.KernelDecision.{KernelDecision}
 use Rattle.rules.specs.declared.decision.Prescribed.{Prescribed}
 use Rattle.rules.specs.declared.decision.Prescribed.the-variants.{Decided}
-use Rattle.bank.proofs.Layouts.{Fitting}
+use Rattle.packing.proofs.Layouts.{Fitting}
 use Rattle.bank.proofs.Listing.{length-listed}
-use Rattle.bank.proofs.Trips.{model-back}
+use Rattle.packing.proofs.Trips.{model-back}
 
 module _ (bank : List ℕ) (index : ℕ) (m : KernelModel) where
   -- AN INDEX BEYOND THE BANK LEAVES IT AS IT IS

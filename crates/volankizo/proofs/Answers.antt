@@ -4,11 +4,12 @@ use Prim.Native.Nat.{ℕ}
 use mathlib.Core.List.{List}
 use mathlib.Core.Path.{_≡_, sym, _∙_}
 use lib.ListN.{length}
-use Rattle.rules.specs.Numbers.{Faults, firstFault, listUnless}
+use Rattle.rules.specs.Refused.{Faults, firstFault, listUnless}
 use Rattle.rules.specs.Explain.{nextEligibleOf}
 use Rattle.rules.specs.Trust.{orderedUnless}
 use Rattle.layout.specs.Layout.{uncountedBytes, decisionBytes, boundaryBytes}
-use Rattle.boundary.specs.Boundary.{wordOf, prescribeFaults, prescribeCheckedFaults, prescribed, utilityFaults, utilityOf, utilityFrom, utilityBytes, findFaults, placeIn, placeBytes, checkFaults, explainFaults, explainDecision, explainEntries, nextFaults, nextBytes, validateFaults, untrustedFaults, trustFaults, winFaults, winOf, marginFaults, marginOf}
+use Rattle.opening.specs.Opening.{wordOf, checkFaults}
+use Rattle.boundary.specs.Boundary.{prescribeFaults, prescribeCheckedFaults, prescribed, utilityFaults, utilityOf, utilityFrom, utilityBytes, findFaults, placeIn, placeBytes, explainFaults, explainDecision, explainEntries, nextFaults, nextBytes, validateFaults, untrustedFaults, trustFaults, winFaults, winOf, marginFaults, marginOf}
 
 -- a word and a buffer at exit that one promise permits
 pub record Permitted (faults : Faults) (bytes out : List ℕ) (word : ℕ) (after : List ℕ) : Type 0 where

@@ -7,7 +7,8 @@ use lib.ListN.{length}
 use Rattle.rules.specs.Stored.{storedBank}
 use Rattle.rules.specs.Printed.{unitText, askText}
 use Rattle.rules.specs.Words.{askWords}
-use Rattle.delivery.specs.Delivery.{recordAtFaults, offsetBytes, writeStoredFaults, storedFormOf, writeRequestFaults, requestFormOf, readStoredFaults, storedBytes, readRequestFaults, requestIn, textFaults, textBytes}
+use Rattle.delivery.specs.Delivery.{recordAtFaults, offsetBytes, writeStoredFaults, storedFormOf, writeRequestFaults, requestFormOf, readStoredFaults, storedBytes, readRequestFaults, requestIn}
+use Rattle.telling.specs.Telling.{textFaults, textBytes}
 use Rattle.volankizo.proofs.Answers.{Permitted, one-boundary}
 
 module _ (out : List ℕ) (v w : ℕ) (a b : List ℕ) where

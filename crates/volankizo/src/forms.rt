@@ -1,20 +1,21 @@
 // The exported functions that hand over something else than decisions: a record's offset, stored and request forms, printed texts.
-use delivery::ask_text_delivered;
-use delivery::ask_words_delivered;
 use delivery::offset_delivered;
 use delivery::request_delivered;
 use delivery::request_form_delivered;
 use delivery::stored_delivered;
 use delivery::stored_form_delivered;
-use delivery::unit_text_delivered;
+use telling::ask_text_delivered;
+use telling::ask_words_delivered;
+use telling::unit_text_delivered;
 ghost use mathlib.Core.Path.{_≡_};
 ghost use lib.ListN.{length};
-ghost use Rattle.rules.specs.Numbers.{firstFault, listUnless};
+ghost use Rattle.rules.specs.Refused.{firstFault, listUnless};
 ghost use Rattle.rules.specs.Stored.{storedBank};
 ghost use Rattle.rules.specs.Printed.{unitText, askText};
 ghost use Rattle.rules.specs.Words.{askWords};
-ghost use Rattle.boundary.specs.Boundary.{wordOf};
-ghost use Rattle.delivery.specs.Delivery.{recordAtFaults, offsetBytes, writeStoredFaults, storedFormOf, writeRequestFaults, requestFormOf, readStoredFaults, storedBytes, readRequestFaults, requestIn, textFaults, textBytes};
+ghost use Rattle.opening.specs.Opening.{wordOf};
+ghost use Rattle.delivery.specs.Delivery.{recordAtFaults, offsetBytes, writeStoredFaults, storedFormOf, writeRequestFaults, requestFormOf, readStoredFaults, storedBytes, readRequestFaults, requestIn};
+ghost use Rattle.telling.specs.Telling.{textFaults, textBytes};
 
 // Where the record at a place begins. `bank` is whole records, `out` has room for 8. Refused: 1, 2, 4, then 8 where the place is beyond the
 // bank. Written: 8 bytes, the offset as a u64; the record is the 47 bytes there.

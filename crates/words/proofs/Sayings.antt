@@ -13,7 +13,7 @@ use Rattle.rules.specs.Levers.{selects}
 use Rattle.rules.specs.Printed.{entriesOf}
 use Rattle.rules.specs.Words.{isOff, stoppedWords, chosenWords, leversWords, wordsReport}
 use Rattle.rules.specs.declared.records.KernelModel.{KernelModel}
-use Rattle.kernel.proofs.Finding.{found-at, found-nothing}
+use Rattle.outset.proofs.Finding.{found-at, found-nothing}
 use Rattle.words.specs.Nothing.{nothingWords}
 
 pub off-nowhere : (id : ℕ) (bank : List ℕ) → placeOf (firstListed id (listedOf bank)) ≡ none → false ≡ isOff (firstListed id (listedOf bank))

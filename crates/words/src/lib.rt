@@ -8,7 +8,8 @@ ghost use Rattle.rules.specs.Numbers.{toldWritten, toldBoundaries};
 ghost use Rattle.rules.specs.Listing.{firstListed};
 ghost use Rattle.rules.specs.Printed.{printOf, printBuffer};
 ghost use Rattle.rules.specs.Words.{isOff, wordsReport, askWords};
-ghost use Rattle.splice.specs.Written.{Written as Placed};
+ghost use mathlib.Core.Option.{some};
+ghost use Rattle.splice.specs.Placed.{placed};
 ghost use Rattle.printed.specs.Sizes.{wordsBytes};
 ghost use Rattle.words.specs.Nothing.{nothingWords};
 use bank::model_at;
@@ -16,8 +17,8 @@ use counterfactual::what_would_win;
 use inputs::bank_in;
 use inputs::policy_in;
 use inputs::request_in;
-use kernel::listing::first_listed;
 use lines::put_refused;
+use outset::listing::first_listed;
 use printed::ask::ask_outcome;
 use printed::deliver::deliver;
 use printed::sizes::WORDS_BYTES;
@@ -45,7 +46,7 @@ fn is_off(bank: &[u8], id: u32) -> bool
 // No lever wins: why.
 fn put_nothing(out: &mut [u8], id: u32, off: bool) -> usize
     requires { ⌜ wordsBytes ≤ length (now out) ⌝ }
-    ensures { λ r. ⌜ Placed (now (out .entry)) 0 (nothingWords id off) (now (out .exit)) r ⌝ }
+    ensures { λ r. ⌜ some (r, now (out .exit)) ≡ placed (now (out .entry)) 0 (nothingWords id off) ⌝ }
 {
     if off {
         let after = b" is switched off, and switching it on would not be enough.";
@@ -63,7 +64,7 @@ fn put_nothing(out: &mut [u8], id: u32, off: bool) -> usize
 // The sentences of an answer.
 fn put_words_report(out: &mut [u8], asked: Boundaries, id: u32, off: bool) -> usize
     requires { ⌜ wordsBytes ≤ length (now out) ⌝ }
-    ensures { λ r. ⌜ Placed (now (out .entry)) 0 (wordsReport id off (toldBoundaries asked)) (now (out .exit)) r ⌝ }
+    ensures { λ r. ⌜ some (r, now (out .exit)) ≡ placed (now (out .entry)) 0 (wordsReport id off (toldBoundaries asked)) ⌝ }
 {
     let decision = asked.decision;
     let levers = asked.levers;
@@ -85,7 +86,7 @@ fn put_words_report(out: &mut [u8], asked: Boundaries, id: u32, off: bool) -> us
 // The whole answer.
 fn put_answer(out: &mut [u8], input: &[u8], id: u32) -> usize
     requires { ⌜ wordsBytes ≤ length (now out) ⌝ }
-    ensures { λ r. ⌜ Placed (now (out .entry)) 0 (askWords id (now (input .entry))) (now (out .exit)) r ⌝ }
+    ensures { λ r. ⌜ some (r, now (out .exit)) ≡ placed (now (out .entry)) 0 (askWords id (now (input .entry))) ⌝ }
 {
     let outcome = ask_outcome(input, id);
     if let Outcome::Refused(refusal) = outcome {

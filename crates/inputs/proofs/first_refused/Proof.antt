@@ -1,6 +1,6 @@
 -- `inputs::first_refused` meets its contract. Assumes nothing.
 use borrow.Author.Needs.{needs}
-use Rattle.inputs.specs.Opening.{firstRefused}
+use Rattle.inputs.specs.Formed.{firstRefused}
 use Rattle.inputs.proofs.first_refused.Statement.{statement}
 use Rattle.inputs.proofs.first_refused.Tie as tie
 

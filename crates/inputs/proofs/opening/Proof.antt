@@ -1,13 +1,13 @@
 -- `inputs::opening` meets its contract. Assumes nothing.
-use Rattle.kernel.proofs.Refusals.{append-refused, none-told}
-use Rattle.inputs.specs.Opening.{openingFaults}
+use Rattle.outset.proofs.Refusals.{append-refused, none-told}
+use Rattle.inputs.specs.Formed.{formedFaults}
 use Rattle.inputs.proofs.Tests.{many-refused, few-pass}
 use borrow.Author.Needs.{needs}
 use Rattle.inputs.proofs.opening.Statement.{statement}
 use Rattle.inputs.proofs.opening.Tie as tie
 
 returns : tie.Need-returns
-unfolding openingFaults
+unfolding formedFaults
 returns c = append-refused _ _ (c .before .outcome .given .1) (c .before .before .before .lay-out .ensures)
 
 bank-in-requires : tie.Need-bank-in-requires

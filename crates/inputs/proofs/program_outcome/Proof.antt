@@ -1,5 +1,5 @@
 -- `inputs::program_outcome` meets its contract. Assumes nothing.
-use Rattle.kernel.proofs.Refusals.{none-told}
+use Rattle.outset.proofs.Refusals.{none-told}
 use Rattle.inputs.proofs.Tests.{opening-formed, opening-refused, program-told}
 use borrow.Author.Needs.{needs}
 use Rattle.inputs.proofs.program_outcome.Statement.{statement}

@@ -1,6 +1,6 @@
 -- `lines::put_cost` meets its contract. Assumes nothing.
 use Rattle.rules.specs.Printed.{costText}
-use Rattle.splice.proofs.Pieces.{written-as}
+use Rattle.splice.proofs.Pieces.{written, promised-as}
 use native.Mathlib.Omega.{arith}
 use Rattle.lines.proofs.Joins.{dash-word}
 use borrow.Author.Needs.{needs}
@@ -10,8 +10,8 @@ use Rattle.lines.proofs.put_cost.Tie as tie
 returns : tie.Need-returns
 unfolding costText
 returns c =
-    let w = c .before .before .put-text .ensures in
-    rw (c .before .before .before .before .before .enum-told .given .1) (written-as w dash-word, omega (arith, w .ends))
+    let w = written _ _ _ (c .before .before .put-text .ensures .0) in
+    rw (c .before .before .before .before .before .enum-told .given .1) (promised-as w dash-word, omega (arith, w .ends))
 
 returns-2 : tie.Need-returns-2
 unfolding costText

@@ -4,7 +4,7 @@ use mir.Syntax.{w64}
 use mir.Val.{SFits}
 use Rattle.rules.specs.Numbers.{toldDecision}
 use mir.ValLaws.{toZ-ofZ}
-use Rattle.splice.proofs.Pieces.{written-then, written-as}
+use Rattle.splice.proofs.Pieces.{written-then, written, promised-as}
 use Rattle.lines.proofs.Joins.{decision-joins}
 use borrow.Author.Needs.{needs}
 use Rattle.lines.proofs.put_decision.Statement.{statement}
@@ -16,10 +16,10 @@ returns c =
     let q = c .before .before .before .before .before .before .before .before .before .before .before .before .before .before .before .before .put-word .ensures in
     let r = c .before .before .before .before .before .before .before .before .before .before .before .put-signed-word .ensures in
     let s = c .before .before .before .before .before .before .put-words .ensures in
-    let t = c .before .before .put-byte .ensures in
+    let t = written _ _ _ (c .before .before .put-byte .ensures .0) in
     let d = c .before .before .before .before .before .before .before .before .before .before .before .before .before .before .before .before .before .before .before .before .before .before .before .before .before .before .args .decision in
     let f : SFits w64 (d .«counterfactual_utility_microunits») = record { sfits = c .before .before .before .before .before .before .before .before .before .before .before .before .struct-told .given .1 .1 .1 .1 .1 .1 .1 .1 .0 .1 } in (
-      written-as (written-then (written-then (written-then (written-then (p .0) (q .0)) (r .0)) (s .0)) t) (decision-joins (toldDecision d) (toZ-ofZ w64 _ f)),
+      promised-as (written-then (written-then (written-then (written-then (written _ _ _ (p .0)) (written _ _ _ (q .0))) (written _ _ _ (r .0))) (written _ _ _ (s .0))) t) (decision-joins (toldDecision d) (toZ-ofZ w64 _ f)),
       omega (arith, p .1, q .1, r .1, s .1, t .ends),
     )
 

@@ -1,7 +1,7 @@
 -- `lines::put_lever` meets its contract. Assumes nothing.
 use native.Mathlib.Omega.{arith}
 use Rattle.rules.specs.Text.{text}
-use Rattle.splice.proofs.Pieces.{written-then, written-as}
+use Rattle.splice.proofs.Pieces.{written-then, written, promised-as}
 use Rattle.lines.proofs.Joins.{lever-joins}
 use borrow.Author.Needs.{needs}
 use Rattle.lines.proofs.put_lever.Statement.{statement}
@@ -10,11 +10,11 @@ use Rattle.lines.proofs.put_lever.Tie as tie
 returns : tie.Need-returns
 unfolding text
 returns c =
-    let s = c .before .before .put-byte .ensures in
+    let s = written _ _ _ (c .before .before .put-byte .ensures .0) in
     let r = c .before .before .before .before .before .before .put-cost .ensures in
     let q = c .before .before .before .before .before .before .before .before .before .before .put-words .ensures in
-    let p = c .before .before .before .before .before .before .before .before .before .before .before .before .before .before .before .put-text .ensures in
-    (written-as (written-then (written-then (written-then p (q .0)) (r .0)) s) (lever-joins _), omega (arith, p .ends, q .1, r .1, s .ends))
+    let p = written _ _ _ (c .before .before .before .before .before .before .before .before .before .before .before .before .before .before .before .put-text .ensures .0) in
+    (promised-as (written-then (written-then (written-then p (written _ _ _ (q .0))) (written _ _ _ (r .0))) s) (lever-joins _), omega (arith, p .ends, q .1, r .1, s .ends))
 
 pub put-lever-spec : {M : Type 1} → statement M
 put-lever-spec =

@@ -9,8 +9,7 @@ use lib.ListN.{length, take}
 use lib.ListN.{length-map}
 use Rattle.rules.specs.Numbers.{toldEntry}
 use Rattle.rules.specs.Printed.{leverLines}
-use Rattle.splice.specs.Written.{Written}
-use Rattle.splice.proofs.Pieces.{written-none, written-then, written-as}
+use Rattle.splice.proofs.Pieces.{written-none, written-then, written-as, written, promised-as, Written}
 use Rattle.lines.proofs.Joins.{levers-none, levers-more, levers-all}
 use Rattle.lines.proofs.put_levers.Statement.{statement}
 use Rattle.lines.proofs.put_levers.Tie as tie
@@ -39,7 +38,7 @@ returns c =
     let l = c .before .before .loop in
     let a = c .before .before .before .before .args .t3 in
     let e : l .i ≡ a .count = omega (arith, l .inv .1, c .if1 .taken) in
-    (written-as (l .inv .4) (ap (λ (k : ℕ). leverLines (take k (map toldEntry (a .levers)))) e), omega arith)
+    (promised-as (l .inv .4) (ap (λ (k : ℕ). leverLines (take k (map toldEntry (a .levers)))) e), omega arith)
 
 loop-again : tie.Need-loop-again Inv-loop μ-loop
 loop-again c =
@@ -50,14 +49,14 @@ loop-again c =
       search needs,
       search needs,
       search needs,
-      written-as (written-then (l .inv .4) (w .0)) (levers-more (a .levers) _ (l .i) (omega (arith, long (c .before .before .before .before .before .before .before .before .before), c .before .before .before .before .before .before .loop-test .taken))),
+      written-as (written-then (l .inv .4) (written _ _ _ (w .0))) (levers-more (a .levers) _ (l .i) (omega (arith, long (c .before .before .before .before .before .before .before .before .before), c .before .before .before .before .before .before .loop-test .taken))),
     )
 
 returns-2 : tie.Need-returns-2 Inv-loop μ-loop
 returns-2 c =
     let l = c .before .loop in
     let a = c .before .before .before .args .t3 in
-    (written-as (l .inv .4) (ap leverLines (levers-all (a .levers) (l .i) (a .count) (omega (arith, long (c .before .before .before), c .loop-test .left)) (omega (arith, long (c .before .before .before), c .loop-test .left, l .inv .1)))), omega arith)
+    (promised-as (l .inv .4) (ap leverLines (levers-all (a .levers) (l .i) (a .count) (omega (arith, long (c .before .before .before), c .loop-test .left)) (omega (arith, long (c .before .before .before), c .loop-test .left, l .inv .1)))), omega arith)
 
 pub put-levers-spec : {M : Type 1} → statement M
 put-levers-spec =

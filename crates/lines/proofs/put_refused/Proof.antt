@@ -4,7 +4,7 @@ use mathlib.Core.Path.{ap}
 use mathlib.Core.List.{[], _∷_}
 use Rattle.rules.specs.Text.{text, decimal, line}
 use Rattle.rules.specs.Printed.{refusedLine}
-use Rattle.splice.proofs.Pieces.{written-as}
+use Rattle.splice.proofs.Pieces.{written, promised-as}
 use borrow.Author.Needs.{needs}
 use Rattle.lines.proofs.put_refused.Statement.{statement}
 use Rattle.lines.proofs.put_refused.Tie as tie
@@ -14,7 +14,7 @@ unfolding refusedLine text
 returns c =
     let w = c .before .before .put-line .ensures in
     let n = c .before .before .before .before .before .before in
-    (written-as (w .0) (ap (λ (k : ℕ). line (text "refused") (decimal k ∷ [])) (n .number .ensures)), w .1)
+    (promised-as (written _ _ _ (w .0)) (ap (λ (k : ℕ). line (text "refused") (decimal k ∷ [])) (n .number .ensures)), w .1)
 
 pub put-refused-spec : {M : Type 1} → statement M
 put-refused-spec =

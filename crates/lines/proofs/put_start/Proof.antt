@@ -5,7 +5,7 @@ use mir.Val.{SFits}
 use Rattle.rules.specs.Numbers.{toldDecision}
 use Rattle.rules.specs.Text.{text}
 use mir.ValLaws.{toZ-ofZ}
-use Rattle.splice.proofs.Pieces.{written-then, written-as}
+use Rattle.splice.proofs.Pieces.{written-then, written, promised-as}
 use Rattle.lines.proofs.Joins.{start-joins}
 use borrow.Author.Needs.{needs}
 use Rattle.lines.proofs.put_start.Statement.{statement}
@@ -14,12 +14,12 @@ use Rattle.lines.proofs.put_start.Tie as tie
 returns : tie.Need-returns
 unfolding text
 returns c =
-    let p = c .before .before .before .before .before .before .before .before .before .before .before .before .put-text .ensures in
+    let p = written _ _ _ (c .before .before .before .before .before .before .before .before .before .before .before .before .put-text .ensures .0) in
     let q = c .before .before .before .before .before .before .before .put-words .ensures in
     let r = c .before .before .put-signed-word .ensures in
     let d = c .before .before .before .before .before .before .before .before .before .before .before .before .before .before .before .before .before .before .before .before .args .decision in
     let f : SFits w64 (d .«expected_utility_microunits») = record { sfits = c .before .before .before .struct-told .given .1 .1 .1 .1 .1 .1 .0 .1 } in (
-      written-as (written-then (written-then p (q .0)) (r .0)) (start-joins (toldDecision d) (c .before .before .before .before .before .before .before .before .before .before .before .before .before .before .before .before .before .before .number .ensures) (c .before .before .before .before .before .before .before .before .before .before .before .before .before .before .before .before .before .number2 .ensures) (toZ-ofZ w64 _ f)),
+      promised-as (written-then (written-then p (written _ _ _ (q .0))) (written _ _ _ (r .0))) (start-joins (toldDecision d) (c .before .before .before .before .before .before .before .before .before .before .before .before .before .before .before .before .before .before .number .ensures) (c .before .before .before .before .before .before .before .before .before .before .before .before .before .before .before .before .before .number2 .ensures) (toZ-ofZ w64 _ f)),
       omega (arith, p .ends, q .1, r .1),
     )
 

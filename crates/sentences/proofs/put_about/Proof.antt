@@ -1,16 +1,16 @@
 -- `sentences::put_about` meets its contract. Assumes nothing.
 use native.Mathlib.Omega.{arith}
-use Rattle.splice.proofs.Pieces.{written-then}
+use Rattle.splice.proofs.Pieces.{written-then, written, promised}
 use borrow.Author.Needs.{needs}
 use Rattle.sentences.proofs.put_about.Statement.{statement}
 use Rattle.sentences.proofs.put_about.Tie as tie
 
 returns : tie.Need-returns
 returns c =
-    let p = c .before .before .before .before .before .before .before .before .before .before .put-text .ensures in
+    let p = written _ _ _ (c .before .before .before .before .before .before .before .before .before .before .put-text .ensures .0) in
     let q = c .before .before .before .before .before .before .put-number .ensures in
-    let r = c .before .before .put-text2 .ensures in
-    (written-then (written-then p (q .0)) r, omega (arith, p .ends, q .1, r .ends))
+    let r = written _ _ _ (c .before .before .put-text2 .ensures .0) in
+    (promised (written-then (written-then p (written _ _ _ (q .0))) r), omega (arith, p .ends, q .1, r .ends))
 
 pub put-about-spec : {M : Type 1} → statement M
 put-about-spec =

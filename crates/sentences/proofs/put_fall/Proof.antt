@@ -5,7 +5,7 @@ use mathlib.Core.List.{_++_}
 use native.Mathlib.Omega.{arith}
 use Rattle.rules.specs.Text.{text}
 use Rattle.rules.specs.Words.{percent}
-use Rattle.splice.proofs.Pieces.{written-then, written-as}
+use Rattle.splice.proofs.Pieces.{written-then, written, promised-as}
 use Rattle.sentences.specs.Parts.{fallWords}
 use borrow.Author.Needs.{needs}
 use Rattle.sentences.proofs.put_fall.Statement.{statement}
@@ -14,11 +14,11 @@ use Rattle.sentences.proofs.put_fall.Tie as tie
 returns : tie.Need-returns
 unfolding fallWords text
 returns c =
-    let p = c .before .before .before .before .before .before .before .before .before .before .before .before .before .before .before .before .put-text .ensures in
+    let p = written _ _ _ (c .before .before .before .before .before .before .before .before .before .before .before .before .before .before .before .before .put-text .ensures .0) in
     let q = c .before .before .before .before .before .before .before .before .before .before .before .put-percent .ensures in
-    let r = c .before .before .before .before .before .before .put-text2 .ensures in
+    let r = written _ _ _ (c .before .before .before .before .before .before .put-text2 .ensures .0) in
     let s = c .before .before .put-percent2 .ensures in (
-      written-as (written-then (written-then (written-then p (q .0)) r) (s .0))
+      promised-as (written-then (written-then (written-then p (written _ _ _ (q .0))) r) (written _ _ _ (s .0)))
           (ap (λ (n : ℕ). text "Price: 100 percent today; it must fall by at least " ++ percent n ++ text ", to " ++ percent (c .before .before .before .before .before .before .before .before .before .before .before .before .before .before .before .before .before .before .before .before .args .boundary)) (c .before .before .before .before .before .before .before .before .before .before .before .before .fall .ensures)),
       omega (arith, p .ends, q .1, r .ends, s .1),
     )

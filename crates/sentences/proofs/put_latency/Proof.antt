@@ -1,7 +1,7 @@
 -- `sentences::put_latency` meets its contract. Assumes nothing.
 use native.Mathlib.Omega.{arith}
 use Rattle.rules.specs.Text.{text}
-use Rattle.splice.proofs.Pieces.{written-then, written-as}
+use Rattle.splice.proofs.Pieces.{written-then, written, promised-as}
 use Rattle.sentences.proofs.Joins.{latency-joins}
 use borrow.Author.Needs.{needs}
 use Rattle.sentences.proofs.put_latency.Statement.{statement}
@@ -12,8 +12,8 @@ unfolding text
 returns c =
     let p = c .before .before .before .before .before .before .before .before .before .before .before .put-about .ensures in
     let q = c .before .before .before .before .before .before .before .put-number .ensures in
-    let r = c .before .before .put-text .ensures in
-    (written-as (written-then (written-then (p .0) (q .0)) r) (latency-joins _), omega (arith, p .1, q .1, r .ends))
+    let r = written _ _ _ (c .before .before .put-text .ensures .0) in
+    (promised-as (written-then (written-then (written _ _ _ (p .0)) (written _ _ _ (q .0))) r) (latency-joins _), omega (arith, p .1, q .1, r .ends))
 
 pub put-latency-spec : {M : Type 1} → statement M
 put-latency-spec =

@@ -9,8 +9,7 @@ use lib.ListN.{length, take}
 use lib.ListN.{length-map}
 use Rattle.rules.specs.Numbers.{toldEntry}
 use Rattle.rules.specs.Words.{leversWords}
-use Rattle.splice.specs.Written.{Written}
-use Rattle.splice.proofs.Pieces.{written-none, written-then, written-as}
+use Rattle.splice.proofs.Pieces.{written-none, written-then, written-as, written, promised-as, Written}
 use Rattle.lines.proofs.Joins.{levers-all}
 use Rattle.sentences.proofs.Joins.{words-none, words-more}
 use Rattle.sentences.proofs.put_levers_words.Statement.{statement}
@@ -40,7 +39,7 @@ returns c =
     let l = c .before .before .loop in
     let a = c .before .before .before .before .args .t4 in
     let e : l .i ≡ a .count = omega (arith, l .inv .1, c .if1 .taken) in
-    written-as (l .inv .4) (ap (λ (k : ℕ). leversWords (c .before .before .before .before .args .id) (take k (map toldEntry (a .levers)))) e)
+    promised-as (l .inv .4) (ap (λ (k : ℕ). leversWords (c .before .before .before .before .args .id) (take k (map toldEntry (a .levers)))) e)
 
 loop-again : tie.Need-loop-again Inv-loop μ-loop
 loop-again c =
@@ -51,14 +50,14 @@ loop-again c =
       search needs,
       search needs,
       search needs,
-      written-as (written-then (l .inv .4) (w .0)) (words-more _ (a .levers) _ (l .i) (omega (arith, long (c .before .before .before .before .before .before .before .before .before), c .before .before .before .before .before .before .loop-test .taken))),
+      written-as (written-then (l .inv .4) (written _ _ _ (w .0))) (words-more _ (a .levers) _ (l .i) (omega (arith, long (c .before .before .before .before .before .before .before .before .before), c .before .before .before .before .before .before .loop-test .taken))),
     )
 
 returns-2 : tie.Need-returns-2 Inv-loop μ-loop
 returns-2 c =
     let l = c .before .loop in
     let a = c .before .before .before .args .t4 in
-    written-as (l .inv .4) (ap (leversWords _) (levers-all (a .levers) (l .i) (a .count) (omega (arith, long (c .before .before .before), c .loop-test .left)) (omega (arith, long (c .before .before .before), c .loop-test .left, l .inv .1))))
+    promised-as (l .inv .4) (ap (leversWords _) (levers-all (a .levers) (l .i) (a .count) (omega (arith, long (c .before .before .before), c .loop-test .left)) (omega (arith, long (c .before .before .before), c .loop-test .left, l .inv .1))))
 
 pub put-levers-words-spec : {M : Type 1} → statement M
 put-levers-words-spec =

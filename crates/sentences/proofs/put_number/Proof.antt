@@ -7,6 +7,7 @@ use Rattle.text.proofs.Digits.{decimal-twenty}
 use borrow.Author.Needs.{needs}
 use Rattle.sentences.proofs.put_number.Statement.{statement}
 use Rattle.sentences.proofs.put_number.Tie as tie
+use Rattle.splice.proofs.Pieces.{written, promised}
 
 few : (c : tie.Start) → length (decimal (c .args .n)) ≤ 20
 few c = decimal-twenty (c .args .n) (c .fits .n .fits)
@@ -16,8 +17,8 @@ put-decimal-requires c κs = omega (arith, few (c .before .before), c .before .b
 
 returns : tie.Need-returns
 returns c =
-    let w = c .before .before .put-decimal .ensures in
-    (w, omega (arith, w .ends, few (c .before .before .before .before .before)))
+    let w = written _ _ _ (c .before .before .put-decimal .ensures) in
+    (promised w, omega (arith, w .ends, few (c .before .before .before .before .before)))
 
 pub put-number-spec : {M : Type 1} → statement M
 put-number-spec =

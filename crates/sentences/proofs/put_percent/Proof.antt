@@ -1,7 +1,7 @@
 -- `sentences::put_percent` meets its contract. Assumes nothing.
 use native.Mathlib.Omega.{arith}
 use Rattle.rules.specs.Text.{text}
-use Rattle.splice.proofs.Pieces.{written-then, written-as}
+use Rattle.splice.proofs.Pieces.{written-then, written, promised-as}
 use Rattle.sentences.proofs.Joins.{percent-joins}
 use borrow.Author.Needs.{needs}
 use Rattle.sentences.proofs.put_percent.Statement.{statement}
@@ -11,9 +11,9 @@ returns : tie.Need-returns
 unfolding text
 returns c =
     let p = c .before .before .before .before .before .before .before .before .before .before .before .before .put-number .ensures in
-    let q = c .before .before .before .before .before .before .before .put-text .ensures in
-    let r = c .before .before .put-text2 .ensures in (
-      written-as (written-then (written-then (p .0) q) r)
+    let q = written _ _ _ (c .before .before .before .before .before .before .before .put-text .ensures .0) in
+    let r = written _ _ _ (c .before .before .put-text2 .ensures .0) in (
+      promised-as (written-then (written-then (written _ _ _ (p .0)) q) r)
           (percent-joins _ (c .before .before .before .before .before .before .before .before .before .before .before .before .before .before .before .before .before .last-digit .ensures) (c .before .before .before .before .before .before .before .before .before .before .before .before .before .before .before .before .last-digit2 .ensures) (c .before .before .before .before .before .before .before .before .before .before .before .before .before .before .before .last-digit3 .ensures) (c .before .before .before .before .before .before .before .before .before .before .before .before .before .before .last-digit4 .ensures)),
       omega (arith, p .1, q .ends, r .ends),
     )

@@ -1,7 +1,7 @@
 -- `sentences::put_price` meets its contract. Assumes nothing.
 use native.Mathlib.Omega.{arith}
 use Rattle.rules.specs.Words.{sentence, priceWords}
-use Rattle.splice.proofs.Pieces.{written-then}
+use Rattle.splice.proofs.Pieces.{written-then, written, promised}
 use Rattle.sentences.specs.Parts.{fallWords}
 use borrow.Author.Needs.{needs}
 use Rattle.sentences.proofs.put_price.Statement.{statement}
@@ -12,8 +12,8 @@ unfolding priceWords sentence fallWords
 returns c =
     let p = c .before .before .before .before .before .before .before .before .before .before .put-fall .ensures in
     let q = c .before .before .before .before .before .before .put-then .ensures in
-    let r = c .before .before .put-byte .ensures in
-    (written-then (written-then (p .0) (q .0)) r, omega (arith, p .1, q .1, r .ends))
+    let r = written _ _ _ (c .before .before .put-byte .ensures .0) in
+    (promised (written-then (written-then (written _ _ _ (p .0)) (written _ _ _ (q .0))) r), omega (arith, p .1, q .1, r .ends))
 
 pub put-price-spec : {M : Type 1} → statement M
 put-price-spec =

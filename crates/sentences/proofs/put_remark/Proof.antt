@@ -1,7 +1,7 @@
 -- `sentences::put_remark` meets its contract. Assumes nothing.
 use native.Mathlib.Omega.{arith}
 use Rattle.rules.specs.Words.{sentence}
-use Rattle.splice.proofs.Pieces.{written-then}
+use Rattle.splice.proofs.Pieces.{written-then, written, promised}
 use borrow.Author.Needs.{needs}
 use Rattle.sentences.proofs.put_remark.Statement.{statement}
 use Rattle.sentences.proofs.put_remark.Tie as tie
@@ -10,8 +10,8 @@ returns : tie.Need-returns
 unfolding sentence
 returns c =
     let p = c .before .before .before .before .before .before .put-about .ensures in
-    let q = c .before .before .put-byte .ensures in
-    (written-then (p .0) q, omega (arith, p .1, q .ends))
+    let q = written _ _ _ (c .before .before .put-byte .ensures .0) in
+    (promised (written-then (written _ _ _ (p .0)) q), omega (arith, p .1, q .ends))
 
 pub put-remark-spec : {M : Type 1} → statement M
 put-remark-spec =

@@ -5,12 +5,13 @@ use Rattle.rules.specs.Words.{costWords}
 use borrow.Author.Needs.{needs}
 use Rattle.sentences.proofs.put_then.Statement.{statement}
 use Rattle.sentences.proofs.put_then.Tie as tie
+use Rattle.splice.proofs.Pieces.{written, promised}
 
 returns : tie.Need-returns
 unfolding costWords text
 returns c =
-    let w = c .before .before .put-text .ensures in
-    rw (c .before .before .before .before .before .enum-told .given .1) (w, omega (arith, w .ends))
+    let w = written _ _ _ (c .before .before .put-text .ensures .0) in
+    rw (c .before .before .before .before .before .enum-told .given .1) (promised w, omega (arith, w .ends))
 
 returns-2 : tie.Need-returns-2
 unfolding costWords text

@@ -7,7 +7,7 @@ use borrow.Author.Needs.{needs}
 use borrow.Fn.Kinds.{In}
 use borrow.Fn.PlainCycle.{Measures, is, falls, and}
 use Rattle.rules.specs.Text.{decimal}
-use Rattle.splice.proofs.Pieces.{written-then, written-as}
+use Rattle.splice.proofs.Pieces.{written-then, written, promised-as}
 use Rattle.text.proofs.Digits.{decimal-one, decimal-more, one-length, more-length}
 use Rattle.text.proofs.put_decimal.Reads as put-decimal
 use Rattle.text.proofs.put_decimal.Kinds as put-decimal-kinds
@@ -44,7 +44,7 @@ module _ (t : ℕ) where
   returns : lts.Need-returns (calls t) (at t) put-decimal.Post
   returns c =
       let b = c .before .before .before .before in
-      written-as (c .before .before .put-byte .ensures)
+      promised-as (written _ _ _ (c .before .before .put-byte .ensures .0))
       (ap (λ (v : ℕ). v ∷ []) (b .before .digit .ensures) ∙ sym (decimal-one _ (b .if1 .taken)))
 
   put-decimal-requires : lts.Need-put-decimal-requires (calls t) (at t) put-decimal.Post
@@ -58,7 +58,7 @@ module _ (t : ℕ) where
       let p = c .before .before .before in
       let b = p .before .before in
       let s = b .before .before .before in
-      omega (arith, s .pre .1, more-length (s .args .n) (b .if1 .left), p .put-decimal .ensures .ends, p .put-decimal .kept .0)
+      omega (arith, s .pre .1, more-length (s .args .n) (b .if1 .left), written _ _ _ (p .put-decimal .ensures) .ends, p .put-decimal .kept .0)
 
   same-length-2 : lts.Need-same-length-2 (calls t) (at t) put-decimal.Post
   same-length-2 c = search needs
@@ -67,7 +67,7 @@ module _ (t : ℕ) where
   returns-2 c =
       let p = c .before .before .before .before .before .before in
       let b = p .before .before in
-      written-as (written-then (p .put-decimal .ensures) (c .before .before .put-byte2 .ensures))
+      promised-as (written-then (written _ _ _ (p .put-decimal .ensures)) (written _ _ _ (c .before .before .put-byte2 .ensures .0)))
       (ap (λ (v : ℕ). decimal (b .before .before .before .args .n / 10) ++ (v ∷ [])) (b .before .digit .ensures) ∙ sym (decimal-more _ (b .if1 .left)))
 
 pub +put-decimal-spec : {M : Type 1} → statement M

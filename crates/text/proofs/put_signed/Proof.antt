@@ -9,7 +9,7 @@ use mir.Syntax.{w64}
 use mir.Val.{ofZ}
 use Rattle.rules.specs.Text.{decimal}
 use Rattle.endian.proofs.Signs.{signed-bits}
-use Rattle.splice.proofs.Pieces.{written-then, written-as}
+use Rattle.splice.proofs.Pieces.{written-then, written, promised-as}
 use Rattle.text.proofs.Digits.{decimal-twenty, decimal-nineteen, signed-up, signed-down}
 use Rattle.text.proofs.Words.{minus-text}
 use Rattle.text.proofs.put_signed.Statement.{statement}
@@ -30,25 +30,25 @@ returns : tie.Need-returns
 returns c =
     let t = c .before .before .before .before in
     let b = t .before in
-    let w = c .before .before .put-decimal .ensures in (
-      written-as w (signed-up (b .before .before .args .n) _ (b .before .before .fits .n) (pattern b) (t .if1 .taken)),
+    let w = written _ _ _ (c .before .before .put-decimal .ensures) in (
+      promised-as w (signed-up (b .before .before .args .n) _ (b .before .before .fits .n) (pattern b) (t .if1 .taken)),
       omega (arith, w .ends, few t),
     )
 
 put-decimal-requires-2 : tie.Need-put-decimal-requires-2
 put-decimal-requires-2 c κs =
     let p = c .before .before .before in
-    omega (arith, fewer (p .before .before .before), p .put-text .ensures .ends, p .put-text .kept .0)
+    omega (arith, fewer (p .before .before .before), written _ _ _ (p .put-text .ensures .0) .ends, p .put-text .kept .0)
 
 returns-2 : tie.Need-returns-2
 returns-2 c =
     let p = c .before .before .before .before .before .before in
     let t = p .before .before .before in
     let b = t .before in
-    let w = written-then (p .put-text .ensures) (c .before .before .put-decimal2 .ensures) in (
-      written-as w
+    let w = written-then (written _ _ _ (p .put-text .ensures .0)) (written _ _ _ (c .before .before .put-decimal2 .ensures)) in (
+      promised-as w
           (ap (λ (m : List ℕ). m ++ decimal (18446744073709551615 - b .bits .result + 1)) minus-text ∙ signed-down (b .before .before .args .n) _ (b .before .before .fits .n) (pattern b) (t .if1 .left)),
-      omega (arith, p .put-text .ensures .ends, c .before .before .put-decimal2 .ensures .ends, fewer t),
+      omega (arith, written _ _ _ (p .put-text .ensures .0) .ends, written _ _ _ (c .before .before .put-decimal2 .ensures) .ends, fewer t),
     )
 
 pub put-signed-spec : {M : Type 1} → statement M

@@ -6,7 +6,7 @@ use borrow.Author.Needs.{needs}
 use lib.IntN.{ℤ}
 use Rattle.rules.specs.Text.{signedDecimal, spaced}
 use Rattle.endian.proofs.Signs.{signed-bits}
-use Rattle.splice.proofs.Pieces.{written-then, written-as}
+use Rattle.splice.proofs.Pieces.{written-then, written, promised-as}
 use Rattle.text.proofs.Words.{spaced-one}
 use Rattle.text.proofs.put_signed_word.Statement.{statement}
 use Rattle.text.proofs.put_signed_word.Tie as tie
@@ -16,9 +16,9 @@ returns c =
     let p = c .before .before .before .before .before .before in
     let s = c .before .before .put-signed .ensures in
     let a = p .before .before .before .before in (
-      written-as (written-then (p .put-text .ensures) (s .0))
+      promised-as (written-then (written _ _ _ (p .put-text .ensures .0)) (written _ _ _ (s .0)))
           (spaced-one _ ∙ ap (λ (z : ℤ). spaced (signedDecimal z ∷ [])) (signed-bits (a .args .n) (a .fits .n))),
-      omega (arith, p .put-text .ensures .ends, s .1),
+      omega (arith, written _ _ _ (p .put-text .ensures .0) .ends, s .1),
     )
 
 pub put-signed-word-spec : {M : Type 1} → statement M

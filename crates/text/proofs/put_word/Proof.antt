@@ -4,7 +4,7 @@ use native.Mathlib.Omega.{arith}
 use borrow.Author.Needs.{needs}
 use lib.ListN.{length}
 use Rattle.rules.specs.Text.{decimal}
-use Rattle.splice.proofs.Pieces.{written-then, written-as}
+use Rattle.splice.proofs.Pieces.{written-then, written, promised-as}
 use Rattle.text.proofs.Digits.{decimal-twenty}
 use Rattle.text.proofs.Words.{spaced-one}
 use Rattle.text.proofs.put_word.Statement.{statement}
@@ -16,14 +16,14 @@ few c = decimal-twenty (c .args .n) (c .fits .n .fits)
 put-decimal-requires : tie.Need-put-decimal-requires
 put-decimal-requires c κs =
     let p = c .before .before .before in
-    omega (arith, few (p .before .before .before .before), p .put-text .ensures .ends, p .put-text .kept .0)
+    omega (arith, few (p .before .before .before .before), written _ _ _ (p .put-text .ensures .0) .ends, p .put-text .kept .0)
 
 returns : tie.Need-returns
 returns c =
     let p = c .before .before .before .before .before .before in
-    let w = written-then (p .put-text .ensures) (c .before .before .put-decimal .ensures) in (
-      written-as w (spaced-one _),
-      omega (arith, p .put-text .ensures .ends, c .before .before .put-decimal .ensures .ends, few (p .before .before .before .before)),
+    let w = written-then (written _ _ _ (p .put-text .ensures .0)) (written _ _ _ (c .before .before .put-decimal .ensures)) in (
+      promised-as w (spaced-one _),
+      omega (arith, written _ _ _ (p .put-text .ensures .0) .ends, written _ _ _ (c .before .before .put-decimal .ensures) .ends, few (p .before .before .before .before)),
     )
 
 pub put-word-spec : {M : Type 1} → statement M

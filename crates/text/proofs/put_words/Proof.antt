@@ -8,8 +8,7 @@ use denote.Ref.{now}
 use lib.ListN.{length, take}
 use lib.Seq.{take-length}
 use Rattle.rules.specs.Text.{decimal, spaced}
-use Rattle.splice.specs.Written.{Written}
-use Rattle.splice.proofs.Pieces.{written-none, written-then, written-as}
+use Rattle.splice.proofs.Pieces.{written-none, written-then, written-as, written, promised-as, Written}
 use Rattle.text.proofs.Words.{spaced-none, words-more}
 use Rattle.text.proofs.put_words.Statement.{statement}
 use Rattle.text.proofs.put_words.Tie as tie
@@ -36,7 +35,7 @@ loop-again c =
       search needs,
       search needs,
       search needs,
-      written-as (written-then (l .before .loop .inv .3) (c .before .before .put-word .ensures .0)) (words-more ns (l .before .loop .i) (l .loop-test .taken)),
+      written-as (written-then (l .before .loop .inv .3) (written _ _ _ (c .before .before .put-word .ensures .0))) (words-more ns (l .before .loop .i) (l .loop-test .taken)),
     )
 
 returns : tie.Need-returns Inv-loop μ-loop
@@ -44,7 +43,7 @@ returns c =
     let l = c .before .loop in
     let ns = now (c .before .before .before .before .args .ns) in
     let e : l .i ≡ length ns = omega arith in
-    (written-as (l .inv .3) (ap (λ (k : ℕ). spaced (map decimal (take k ns))) e ∙ rw (take-length ns)), omega arith)
+    (promised-as (l .inv .3) (ap (λ (k : ℕ). spaced (map decimal (take k ns))) e ∙ rw (take-length ns)), omega arith)
 
 pub put-words-spec : {M : Type 1} → statement M
 put-words-spec =

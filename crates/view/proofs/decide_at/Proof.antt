@@ -1,9 +1,9 @@
 -- `view::decide_at` meets its contract. Assumes nothing.
 use mathlib.Core.Path.{sym, ap, _∙_}
 use borrow.Author.Needs.{needs}
-use Rattle.rules.specs.Numbers.{answered}
+use Rattle.rules.specs.Refused.{answered}
 use Rattle.rules.specs.View.{viewOf}
-use Rattle.kernel.proofs.Refusals.{unless-passed, unless-refused, bank-room}
+use Rattle.outset.proofs.Refusals.{unless-passed, unless-refused, bank-room}
 use Rattle.view.proofs.decide_at.Statement.{statement}
 use Rattle.view.proofs.decide_at.Tie as tie
 

@@ -4,7 +4,7 @@ use mathlib.Core.Path.{sym, ap, _∙_}
 use borrow.Author.Needs.{needs}
 use Rattle.rules.specs.Records.{modelLayout, modelNumbers}
 use Rattle.rules.specs.Decide.{decisionOf}
-use Rattle.bank.proofs.Layouts.{Fitting}
+use Rattle.packing.proofs.Layouts.{Fitting}
 use Rattle.view.proofs.Standing.{stands-beyond, stands-inside}
 use Rattle.view.proofs.decide_in.Statement.{statement}
 use Rattle.view.proofs.decide_in.Tie as tie

@@ -1,9 +1,9 @@
 -- `volankizo::volankizo_check_request` meets its contract. Assumes nothing.
 use denote.Ref.{now}
 use borrow.Author.Needs.{needs}
-use Rattle.boundary.specs.Boundary.{checkFaults}
-use Rattle.boundary.proofs.Places.{check-placeless}
-use Rattle.boundary.proofs.Handed.{Tells, outcome-place, outcome-word, outcome-none}
+use Rattle.opening.specs.Opening.{checkFaults}
+use Rattle.opening.proofs.Places.{check-placeless}
+use Rattle.opening.proofs.Handed.{Tells, outcome-place, outcome-word, outcome-none}
 use Rattle.volankizo.proofs.volankizo_check_request.Statement.{statement}
 use Rattle.volankizo.proofs.volankizo_check_request.Tie as tie
 

@@ -4,14 +4,16 @@ use native.Mathlib.Omega.{arith}
 use lib.ListN.{length}
 use denote.Ref.{now}
 use borrow.Author.Needs.{needs}
-use Rattle.rules.specs.Numbers.{roomFaults, toldPrescribed}
+use Rattle.rules.specs.Refused.{roomFaults}
+use Rattle.rules.specs.Numbers.{toldPrescribed}
 use Rattle.splice.proofs.Pieces.{patched-start}
 use Rattle.layout.specs.Layout.{uncountedBytes}
-use Rattle.boundary.specs.Boundary.{openingFaults, explainFaults, explainDecision, explainEntries}
+use Rattle.opening.specs.Opening.{openingFaults}
+use Rattle.boundary.specs.Boundary.{explainFaults, explainDecision, explainEntries}
 use Rattle.rules.proofs.Faults.{none-first}
-use Rattle.boundary.proofs.Openings.{opening-room}
+use Rattle.opening.proofs.Openings.{opening-room}
 use Rattle.boundary.proofs.Places.{explain-placeless}
-use Rattle.boundary.proofs.Handed.{Told, refused-place, refused-word, refused-list, answered-none, answered-word, answered-list}
+use Rattle.opening.proofs.Handed.{Told, refused-place, refused-word, refused-list, answered-none, answered-word, answered-list}
 use Rattle.volankizo.proofs.volankizo_explain.Statement.{statement}
 use Rattle.volankizo.proofs.volankizo_explain.Tie as tie
 

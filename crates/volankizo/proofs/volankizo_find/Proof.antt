@@ -6,9 +6,9 @@ use borrow.Author.Needs.{needs}
 use Rattle.rules.specs.Numbers.{toldFound}
 use Rattle.splice.proofs.Pieces.{patched-start}
 use Rattle.boundary.specs.Boundary.{findFaults, placeIn, placeBytes}
-use Rattle.boundary.proofs.Openings.{lent-room}
-use Rattle.boundary.proofs.Places.{lent-placeless}
-use Rattle.boundary.proofs.Handed.{Told, refused-place, refused-word, refused-list, answered-none, answered-word, answered-list}
+use Rattle.opening.proofs.Openings.{lent-room}
+use Rattle.opening.proofs.Places.{lent-placeless}
+use Rattle.opening.proofs.Handed.{Told, refused-place, refused-word, refused-list, answered-none, answered-word, answered-list}
 use Rattle.volankizo.proofs.volankizo_find.Statement.{statement}
 use Rattle.volankizo.proofs.volankizo_find.Tie as tie
 

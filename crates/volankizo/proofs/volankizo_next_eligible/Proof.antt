@@ -1,7 +1,7 @@
 -- `volankizo::volankizo_next_eligible` meets its contract. Assumes nothing.
 use mathlib.Core.Path.{_∙_}
 use borrow.Author.Needs.{needs}
-use Rattle.rules.specs.Numbers.{roomFaults}
+use Rattle.rules.specs.Refused.{roomFaults}
 use Rattle.rules.proofs.Choices.{below-yes, below-no}
 use Rattle.splice.proofs.Pieces.{patched-start}
 use Rattle.volankizo.proofs.volankizo_next_eligible.Statement.{statement}

@@ -8,9 +8,9 @@ use Rattle.rules.specs.Numbers.{toldTraced}
 use Rattle.splice.proofs.Pieces.{patched-start}
 use Rattle.layout.specs.Layout.{decisionBytes}
 use Rattle.boundary.specs.Boundary.{prescribed, prescribeFaults}
-use Rattle.boundary.proofs.Openings.{opening-room}
-use Rattle.boundary.proofs.Places.{opening-placeless}
-use Rattle.boundary.proofs.Handed.{Told, refused-place, refused-word, refused-list, answered-none, answered-word, answered-list}
+use Rattle.opening.proofs.Openings.{opening-room}
+use Rattle.opening.proofs.Places.{opening-placeless}
+use Rattle.opening.proofs.Handed.{Told, refused-place, refused-word, refused-list, answered-none, answered-word, answered-list}
 use Rattle.volankizo.proofs.volankizo_prescribe.Statement.{statement}
 use Rattle.volankizo.proofs.volankizo_prescribe.Tie as tie
 

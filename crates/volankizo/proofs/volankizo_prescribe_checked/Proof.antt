@@ -11,9 +11,9 @@ use Rattle.splice.proofs.Pieces.{patched-start}
 use Rattle.layout.specs.Layout.{decisionBytes}
 use Rattle.boundary.specs.Boundary.{prescribeFaults, prescribed, prescribeCheckedFaults}
 use Rattle.rules.proofs.Faults.{none-first}
-use Rattle.boundary.proofs.Openings.{opening-room}
+use Rattle.opening.proofs.Openings.{opening-room}
 use Rattle.boundary.proofs.Places.{checked-placeless}
-use Rattle.boundary.proofs.Handed.{Told, refused-place, refused-word, refused-list, answered-none, answered-word, answered-list}
+use Rattle.opening.proofs.Handed.{Told, refused-place, refused-word, refused-list, answered-none, answered-word, answered-list}
 use Rattle.volankizo.proofs.volankizo_prescribe_checked.Statement.{statement}
 use Rattle.volankizo.proofs.volankizo_prescribe_checked.Tie as tie
 

@@ -3,7 +3,7 @@ use denote.Ref.{now}
 use borrow.Author.Needs.{needs}
 use Rattle.boundary.specs.Boundary.{trustFaults}
 use Rattle.boundary.proofs.Catalogs.{trust-placeless}
-use Rattle.boundary.proofs.Handed.{Tells, outcome-place, outcome-word, outcome-none}
+use Rattle.opening.proofs.Handed.{Tells, outcome-place, outcome-word, outcome-none}
 use Rattle.volankizo.proofs.volankizo_trust.Statement.{statement}
 use Rattle.volankizo.proofs.volankizo_trust.Tie as tie
 

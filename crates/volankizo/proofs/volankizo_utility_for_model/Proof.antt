@@ -8,11 +8,12 @@ use mir.ValLaws.{toZ-ofZ}
 use borrow.Author.Needs.{needs}
 use Rattle.rules.specs.Numbers.{toldUtility}
 use Rattle.splice.proofs.Pieces.{patched-start}
-use Rattle.boundary.specs.Boundary.{openingFaults, faultsIn, utilityFaults, utilityFrom, utilityOf, utilityBytes}
+use Rattle.opening.specs.Opening.{openingFaults}
+use Rattle.boundary.specs.Boundary.{faultsIn, utilityFaults, utilityFrom, utilityOf, utilityBytes}
 use Rattle.rules.proofs.Faults.{none-first}
-use Rattle.boundary.proofs.Openings.{opening-room}
+use Rattle.opening.proofs.Openings.{opening-room}
 use Rattle.boundary.proofs.Places.{utility-placeless}
-use Rattle.boundary.proofs.Handed.{Told, refused-place, refused-word, refused-list, answered-none, answered-word, answered-list}
+use Rattle.opening.proofs.Handed.{Told, refused-place, refused-word, refused-list, answered-none, answered-word, answered-list}
 use Rattle.volankizo.proofs.volankizo_utility_for_model.Statement.{statement}
 use Rattle.volankizo.proofs.volankizo_utility_for_model.Tie as tie
 

@@ -8,11 +8,12 @@ use Rattle.rules.specs.Numbers.{toldBoundaries}
 use Rattle.rules.specs.declared.refusal.Outcome.{Outcome}
 use Rattle.splice.proofs.Pieces.{patched-start}
 use Rattle.layout.specs.Layout.{boundaryBytes}
-use Rattle.boundary.specs.Boundary.{openingFaults, refusedIn, ifAnswered, toldBounds, winFaults, winOf}
+use Rattle.opening.specs.Opening.{openingFaults}
+use Rattle.boundary.specs.Boundary.{refusedIn, ifAnswered, toldBounds, winFaults, winOf}
 use Rattle.rules.proofs.Faults.{none-first}
-use Rattle.boundary.proofs.Openings.{opening-room}
+use Rattle.opening.proofs.Openings.{opening-room}
 use Rattle.boundary.proofs.Bounds.{win-placeless}
-use Rattle.boundary.proofs.Handed.{Told, refused-place, refused-word, refused-list, answered-none, answered-word, answered-list}
+use Rattle.opening.proofs.Handed.{Told, refused-place, refused-word, refused-list, answered-none, answered-word, answered-list}
 use Rattle.volankizo.proofs.volankizo_what_would_win.Statement.{statement}
 use Rattle.volankizo.proofs.volankizo_what_would_win.Tie as tie
 

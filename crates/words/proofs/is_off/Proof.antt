@@ -1,7 +1,6 @@
 -- `words::is_off` meets its contract. Assumes nothing.
 use native.Mathlib.Omega.{arith}
-use Rattle.kernel.proofs.Finding.{found-at}
-use Rattle.counterfactual.proofs.Listed.{without, with-place}
+use Rattle.outset.proofs.Finding.{found-at, without, with-place}
 use Rattle.words.proofs.Sayings.{off-nowhere, off-at}
 use borrow.Author.Needs.{needs}
 use Rattle.words.proofs.is_off.Statement.{statement}

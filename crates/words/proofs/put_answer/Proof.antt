@@ -7,9 +7,9 @@ use Rattle.rules.specs.Records.{listedOf}
 use Rattle.rules.specs.Listing.{firstListed}
 use Rattle.rules.specs.Printed.{askFaults}
 use Rattle.rules.specs.Words.{isOff, wordsReport, askWords}
-use Rattle.splice.proofs.Pieces.{written-as}
-use Rattle.kernel.proofs.Refusals.{none-told}
-use Rattle.inputs.specs.Opening.{Formed}
+use Rattle.splice.proofs.Pieces.{written, promised-as}
+use Rattle.outset.proofs.Refusals.{none-told}
+use Rattle.inputs.specs.Formed.{Formed}
 use Rattle.inputs.proofs.Tests.{program-formed, bank-few}
 use Rattle.printed.proofs.Reports.{refused-text, passed-text}
 use Rattle.printed.proofs.Asks.{asking-passed, win-told}
@@ -19,7 +19,7 @@ use Rattle.words.proofs.put_answer.Tie as tie
 
 returns : tie.Need-returns
 unfolding askWords
-returns c = written-as (c .before .before .put-refused .ensures .0) (refused-text _ _ (c .before .before .before .before .before .outcome .given .1) (c .before .before .before .before .before .before .before .ask-outcome .ensures))
+returns c = promised-as (written _ _ _ (c .before .before .put-refused .ensures .0)) (refused-text _ _ (c .before .before .before .before .before .outcome .given .1) (c .before .before .before .before .before .before .before .ask-outcome .ensures))
 
 -- the question passes
 none : (c : tie.After-enum-told) → askFaults (c .before .before .before .before .before .args .id) (now (c .before .before .before .before .before .args .input)) ≡ []
@@ -39,7 +39,7 @@ returns-2 c =
     let models = c .before .before .before .before .before .before .before .before .bank-in .ensures in
     let b = win-told _ _ (formed e) (c .before .before .before .before .before .before .before .policy-in .ensures) (c .before .before .before .before .before .before .request-in .ensures) models (c .before .before .before .before .before .what-would-win .ensures) in
     let off = c .before .before .before .is-off .ensures ∙ ap (λ (s : List ℕ). isOff (firstListed id (listedOf s))) models in
-    written-as (c .before .before .put-words-report .ensures) ((λ i. wordsReport id (off i) (b i)) ∙ passed-text _ _ (none e))
+    promised-as (written _ _ _ (c .before .before .put-words-report .ensures)) ((λ i. wordsReport id (off i) (b i)) ∙ passed-text _ _ (none e))
 
 pub put-answer-spec : {M : Type 1} → statement M
 put-answer-spec =

@@ -3,7 +3,7 @@ use mathlib.Core.Path.{ap, _∙_}
 use Rattle.rules.specs.Numbers.{toldBoundaries}
 use Rattle.rules.specs.Text.{text}
 use Rattle.rules.specs.Words.{stoppedWords, chosenWords}
-use Rattle.splice.proofs.Pieces.{written-as}
+use Rattle.splice.proofs.Pieces.{written, promised-as}
 use Rattle.words.proofs.Sayings.{stopped-said, chosen-said, nothing-said, levers-said}
 use borrow.Author.Needs.{needs}
 use Rattle.words.proofs.put_words_report.Statement.{statement}
@@ -12,22 +12,22 @@ use Rattle.words.proofs.put_words_report.Tie as tie
 returns : tie.Need-returns
 unfolding stoppedWords text
 returns c =
-    written-as (c .before .before .put-remark .ensures .0) (ap stoppedWords (c .before .before .before .before .number .ensures) ∙ stopped-said _ _ (toldBoundaries (c .before .before .before .before .before .before .before .before .before .before .before .before .before .args .asked)) (c .before .before .before .before .before .before .before .before .before .if1 .taken))
+    promised-as (written _ _ _ (c .before .before .put-remark .ensures .0)) (ap stoppedWords (c .before .before .before .before .number .ensures) ∙ stopped-said _ _ (toldBoundaries (c .before .before .before .before .before .before .before .before .before .before .before .before .before .args .asked)) (c .before .before .before .before .before .before .before .before .before .if1 .taken))
 
 returns-2 : tie.Need-returns-2
 unfolding chosenWords text
 returns-2 c =
-    written-as (c .before .before .put-remark2 .ensures .0)
+    promised-as (written _ _ _ (c .before .before .put-remark2 .ensures .0))
     (chosen-said _ _ (toldBoundaries (c .before .before .before .before .before .before .before .before .before .before .before .before .args .asked)) (c .before .before .before .before .before .before .before .before .if1 .left) (c .before .before .before .before .before .before .before .selected .ensures) (c .before .before .before .before .before .before .if2 .taken))
 
 returns-3 : tie.Need-returns-3
 returns-3 c =
-    written-as (c .before .before .put-nothing .ensures)
+    promised-as (written _ _ _ (c .before .before .put-nothing .ensures))
     (nothing-said _ _ (toldBoundaries (c .before .before .before .before .before .before .before .before .before .before .before .before .args .asked)) (c .before .before .before .before .before .before .before .before .if1 .left) (c .before .before .before .before .before .before .before .selected .ensures) (c .before .before .before .before .before .before .if2 .left) (c .before .before .before .before .if3 .taken))
 
 returns-4 : tie.Need-returns-4
 returns-4 c =
-    written-as (c .before .before .put-levers-words .ensures)
+    promised-as (written _ _ _ (c .before .before .put-levers-words .ensures))
     (levers-said _ _ (toldBoundaries (c .before .before .before .before .before .before .before .before .before .before .before .before .args .asked)) (c .before .before .before .before .before .before .before .before .if1 .left) (c .before .before .before .before .before .before .before .selected .ensures) (c .before .before .before .before .before .before .if2 .left) (c .before .before .before .before .if3 .left))
 
 pub put-words-report-spec : {M : Type 1} → statement M

@@ -1,6 +1,5 @@
 -- `ask::question::question_of` meets its contract. Assumes nothing.
 use mathlib.Core.Path.{sym, _∙_, ap}
-use native.Mathlib.Omega.{arith}
 use Rattle.rules.specs.Text.{text}
 use Rattle.ask.specs.Question.{inWords}
 use Rattle.ask.proofs.Questions.{ask-alone, ask-others, ask-unclear, ask-words, differ}

@@ -1,6 +1,6 @@
 -- `batch::first_refusal` meets its contract. Assumes nothing.
 use borrow.Author.Needs.{needs}
-use Rattle.kernel.specs.Refuse.{toldLeading}
+use Rattle.outset.specs.Refuse.{toldLeading}
 use Rattle.batch.specs.Refuse.{orElse}
 use Rattle.batch.proofs.refuse.first_refusal.Statement.{statement}
 use Rattle.batch.proofs.refuse.first_refusal.Tie as tie

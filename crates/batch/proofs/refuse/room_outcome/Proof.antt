@@ -1,7 +1,7 @@
 -- `batch::room_outcome` meets its contract. Assumes nothing.
-use Rattle.rules.specs.Numbers.{roomFaults}
+use Rattle.rules.specs.Refused.{roomFaults}
 use Rattle.rules.proofs.Choices.{below-yes, below-no}
-use Rattle.kernel.specs.Refuse.{leading, toldLeading}
+use Rattle.outset.specs.Refuse.{leading, toldLeading}
 use Rattle.batch.proofs.refuse.room_outcome.Statement.{statement}
 use Rattle.batch.proofs.refuse.room_outcome.Tie as tie
 

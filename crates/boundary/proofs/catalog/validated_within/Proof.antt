@@ -3,7 +3,7 @@ use mathlib.Core.Path.{_∙_}
 use borrow.Author.Needs.{needs}
 use Rattle.rules.specs.Validate.{validateOf}
 use Rattle.rules.proofs.Choices.{equal-yes, equal-no}
-use Rattle.boundary.specs.Boundary.{sizeFaults}
+use Rattle.opening.specs.Opening.{sizeFaults}
 use Rattle.boundary.proofs.catalog.validated_within.Statement.{statement}
 use Rattle.boundary.proofs.catalog.validated_within.Tie as tie
 

@@ -3,9 +3,9 @@ use mathlib.Core.Path.{_≡_, refl, sym, _∙_}
 use mathlib.Core.List.{[]}
 use denote.Ref.{now}
 use borrow.Author.Needs.{needs}
-use Rattle.kernel.proofs.Refusals.{unless-refused, append-refused, none-told}
-use Rattle.boundary.specs.Boundary.{openingFaults}
-use Rattle.boundary.proofs.Openings.{opening-policy, opening-request}
+use Rattle.outset.proofs.Refusals.{unless-refused, append-refused, none-told}
+use Rattle.opening.specs.Opening.{openingFaults}
+use Rattle.opening.proofs.Openings.{opening-policy, opening-request}
 use Rattle.boundary.proofs.Bounds.{told-refused, margin-passed}
 use Rattle.boundary.proofs.levers.margin_within.Statement.{statement}
 use Rattle.boundary.proofs.levers.margin_within.Tie as tie

@@ -3,10 +3,11 @@ use mathlib.Core.Path.{_≡_, refl, sym}
 use mathlib.Core.List.{[]}
 use denote.Ref.{now}
 use borrow.Author.Needs.{needs}
-use Rattle.kernel.proofs.Refusals.{unless-refused, append-refused, none-told}
+use Rattle.outset.proofs.Refusals.{unless-refused, append-refused, none-told}
 use Rattle.explain.proofs.Rooms.{list-refused}
-use Rattle.boundary.specs.Boundary.{openingFaults}
-use Rattle.boundary.proofs.Openings.{opening-policy, opening-request, explained-passed, list-passed}
+use Rattle.opening.specs.Opening.{openingFaults}
+use Rattle.opening.proofs.Openings.{opening-policy, opening-request}
+use Rattle.boundary.proofs.Passed.{explained-passed, list-passed}
 use Rattle.boundary.proofs.within.explained_within.Statement.{statement}
 use Rattle.boundary.proofs.within.explained_within.Tie as tie
 

@@ -1,8 +1,8 @@
 -- `boundary::found_within` meets its contract. Assumes nothing.
 use mathlib.Core.Path.{sym}
 use borrow.Author.Needs.{needs}
-use Rattle.kernel.proofs.Refusals.{unless-refused, none-told}
-use Rattle.boundary.proofs.Openings.{found-passed}
+use Rattle.outset.proofs.Refusals.{unless-refused, none-told}
+use Rattle.boundary.proofs.Passed.{found-passed}
 use Rattle.boundary.proofs.within.found_within.Statement.{statement}
 use Rattle.boundary.proofs.within.found_within.Tie as tie
 

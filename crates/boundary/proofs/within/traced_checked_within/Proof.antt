@@ -3,10 +3,11 @@ use mathlib.Core.Path.{_≡_, sym}
 use mathlib.Core.List.{[]}
 use denote.Ref.{now}
 use borrow.Author.Needs.{needs}
-use Rattle.kernel.proofs.Refusals.{unless-refused, none-told}
+use Rattle.outset.proofs.Refusals.{unless-refused, none-told}
 use Rattle.boundary.specs.Boundary.{prescribeCheckedFaults}
 use Rattle.rules.proofs.Faults.{none-first}
-use Rattle.boundary.proofs.Openings.{opening-lent, all-passed}
+use Rattle.opening.proofs.Openings.{opening-lent}
+use Rattle.boundary.proofs.Passed.{all-passed}
 use Rattle.boundary.proofs.within.traced_checked_within.Statement.{statement}
 use Rattle.boundary.proofs.within.traced_checked_within.Tie as tie
 

@@ -3,9 +3,10 @@ use mathlib.Core.Path.{_≡_, sym}
 use mathlib.Core.List.{[]}
 use denote.Ref.{now}
 use borrow.Author.Needs.{needs}
-use Rattle.kernel.proofs.Refusals.{unless-refused, none-told}
+use Rattle.outset.proofs.Refusals.{unless-refused, none-told}
 use Rattle.boundary.specs.Boundary.{prescribeFaults}
-use Rattle.boundary.proofs.Openings.{opening-lent, all-passed}
+use Rattle.opening.proofs.Openings.{opening-lent}
+use Rattle.boundary.proofs.Passed.{all-passed}
 use Rattle.boundary.proofs.within.traced_within.Statement.{statement}
 use Rattle.boundary.proofs.within.traced_within.Tie as tie
 

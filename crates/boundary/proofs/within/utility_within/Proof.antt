@@ -3,9 +3,10 @@ use mathlib.Core.Path.{_≡_, refl, sym}
 use mathlib.Core.List.{[]}
 use denote.Ref.{now}
 use borrow.Author.Needs.{needs}
-use Rattle.kernel.proofs.Refusals.{unless-refused, append-refused, none-told}
-use Rattle.boundary.specs.Boundary.{openingFaults}
-use Rattle.boundary.proofs.Openings.{opening-policy, opening-request, utility-passed}
+use Rattle.outset.proofs.Refusals.{unless-refused, append-refused, none-told}
+use Rattle.opening.specs.Opening.{openingFaults}
+use Rattle.opening.proofs.Openings.{opening-policy, opening-request}
+use Rattle.boundary.proofs.Passed.{utility-passed}
 use Rattle.boundary.proofs.within.utility_within.Statement.{statement}
 use Rattle.boundary.proofs.within.utility_within.Tie as tie
 

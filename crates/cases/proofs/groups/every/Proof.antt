@@ -5,10 +5,13 @@ use Rattle.cases.proofs.groups.every.Statement.{statement}
 use Rattle.cases.proofs.groups.every.Tie as tie
 
 abbrev Inv-loop : tie.InvT-loop
-Inv-loop tally₀ group₀ tally group = group ≤ 14
+Inv-loop tally₀ group₀ tally group = group ≤ 11
 
 abbrev μ-loop : tie.MeasureT-loop
-μ-loop tally₀ group₀ tally group = 14 - group
+μ-loop tally₀ group₀ tally group = 11 - group
+
+nothing-requires : tie.Need-nothing-requires Inv-loop μ-loop
+nothing-requires c κs = search needs
 
 loop-holds : tie.Need-loop-holds Inv-loop μ-loop
 loop-holds c = search needs
@@ -34,6 +37,7 @@ every-spec =
     (tie.spec
     Inv-loop
     μ-loop
+    nothing-requires
     loop-holds
     with-group-requires
     add-group

@@ -10,8 +10,8 @@ Inv-loop group numbers now₀ i₀ now i = i ≤ numbers
 abbrev μ-loop : tie.MeasureT-loop
 μ-loop group numbers now₀ i₀ now i = numbers - i
 
-numbers-of-requires : tie.Need-numbers-of-requires Inv-loop μ-loop
-numbers-of-requires c κs = search needs
+size-of-requires : tie.Need-size-of-requires Inv-loop μ-loop
+size-of-requires c κs = search needs
 
 loop-holds : tie.Need-loop-holds Inv-loop μ-loop
 loop-holds c = search needs
@@ -40,7 +40,7 @@ with-group-spec =
     (tie.spec
     Inv-loop
     μ-loop
-    numbers-of-requires
+    size-of-requires
     loop-holds
     case-of-requires
     noted-requires

@@ -5,7 +5,7 @@ use mathlib.Core.Path.{_≡_, refl, _∙_}
 use denote.Ref.{now}
 use Rattle.rules.specs.Validate.{repeatFaults}
 use Rattle.rules.specs.Records.{modelAt}
-use Rattle.kernel.specs.Refuse.{leading, toldLeading}
+use Rattle.outset.specs.Refuse.{leading, toldLeading}
 use Rattle.catalogue.specs.Ids.{earlierIds}
 use Rattle.catalogue.proofs.Walks.{before, id-model, repeat-here, repeat-later, repeat-none}
 use Rattle.catalogue.proofs.ids.compared.Statement.{statement}

@@ -2,7 +2,7 @@
 use native.Mathlib.Omega.{arith}
 use mathlib.Core.Path.{sym, _∙_}
 use borrow.Author.Needs.{needs}
-use Rattle.kernel.specs.Refuse.{leading, toldLeading}
+use Rattle.outset.specs.Refuse.{leading, toldLeading}
 use Rattle.catalogue.proofs.Rising.{rising-unrepeated}
 use Rattle.catalogue.proofs.ids.repeat_outcome.Statement.{statement}
 use Rattle.catalogue.proofs.ids.repeat_outcome.Tie as tie

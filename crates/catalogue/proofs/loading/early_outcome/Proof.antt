@@ -1,7 +1,7 @@
 -- `catalogue::early_outcome` meets its contract: 1 and 2, 16, 17. Assumes nothing.
 use borrow.Author.Needs.{needs}
 use Rattle.rules.specs.Trust.{earlyFaults}
-use Rattle.kernel.proofs.Refusals.{none-told}
+use Rattle.outset.proofs.Refusals.{none-told}
 use Rattle.catalogue.proofs.Stages.{stopped, stops}
 use Rattle.catalogue.proofs.loading.early_outcome.Statement.{statement}
 use Rattle.catalogue.proofs.loading.early_outcome.Tie as tie

@@ -4,7 +4,7 @@ use native.Mathlib.Omega.{arith}
 use mathlib.Core.Path.{_≡_, refl, _∙_}
 use Rattle.rules.specs.Records.{listedOf}
 use Rattle.rules.specs.Trust.{flagFaults}
-use Rattle.kernel.specs.Refuse.{leading, toldLeading}
+use Rattle.outset.specs.Refuse.{leading, toldLeading}
 use Rattle.catalogue.proofs.Walks.{rest, flag-here, flag-later, flag-none}
 use Rattle.catalogue.proofs.loading.flag_outcome.Statement.{statement}
 use Rattle.catalogue.proofs.loading.flag_outcome.Tie as tie

@@ -4,7 +4,7 @@ use native.Mathlib.Omega.{arith}
 use mathlib.Core.Path.{_≡_, refl, _∙_}
 use Rattle.rules.specs.Records.{listedOf}
 use Rattle.rules.specs.Trust.{reservedFaults}
-use Rattle.kernel.specs.Refuse.{leading, toldLeading}
+use Rattle.outset.specs.Refuse.{leading, toldLeading}
 use Rattle.catalogue.proofs.Walks.{rest, reserved-here, reserved-later, reserved-none}
 use Rattle.catalogue.proofs.loading.reserved_outcome.Statement.{statement}
 use Rattle.catalogue.proofs.loading.reserved_outcome.Tie as tie

@@ -4,7 +4,7 @@ use native.Mathlib.Omega.{arith}
 use Rattle.rules.specs.Limits.{maxProviderId}
 use Rattle.rules.specs.Validate.{providerFaults, modelFaults}
 use Rattle.rules.proofs.Choices.{below-yes, below-no}
-use Rattle.kernel.specs.Refuse.{leading, toldLeading}
+use Rattle.outset.specs.Refuse.{leading, toldLeading}
 use Rattle.catalogue.proofs.records.model_outcome.Statement.{statement}
 use Rattle.catalogue.proofs.records.model_outcome.Tie as tie
 

@@ -1,7 +1,7 @@
 -- `catalogue::record_outcome` meets its contract: 12, then 13 and 14. Assumes nothing.
 use borrow.Author.Needs.{needs}
 use Rattle.rules.specs.Validate.{recordFaults}
-use Rattle.kernel.proofs.Refusals.{none-told}
+use Rattle.outset.proofs.Refusals.{none-told}
 use Rattle.catalogue.proofs.Stages.{stopped, stops}
 use Rattle.catalogue.proofs.records.record_outcome.Statement.{statement}
 use Rattle.catalogue.proofs.records.record_outcome.Tie as tie

@@ -6,9 +6,9 @@ use mathlib.Core.List.{[]}
 use borrow.Author.Needs.{needs}
 use Rattle.rules.specs.Records.{listedOf}
 use Rattle.rules.specs.Validate.{recordsFaults}
-use Rattle.kernel.specs.Refuse.{leading, toldLeading}
+use Rattle.outset.specs.Refuse.{leading, toldLeading}
 use Rattle.catalogue.specs.Ids.{risesFrom}
-use Rattle.kernel.proofs.Refusals.{none-told}
+use Rattle.outset.proofs.Refusals.{none-told}
 use Rattle.catalogue.proofs.Stages.{stopped, stops}
 use Rattle.catalogue.proofs.Walks.{ids, recordsLeft, records-next, records-end}
 use Rattle.catalogue.proofs.records.records_outcome.Statement.{statement}

@@ -2,7 +2,7 @@
 use borrow.Author.Needs.{needs}
 use Rattle.rules.specs.Validate.{catalogFaults}
 use Rattle.rules.specs.declared.refusal.Refusal.the-variants.{EmptyCatalog}
-use Rattle.kernel.proofs.Refusals.{none-told}
+use Rattle.outset.proofs.Refusals.{none-told}
 use Rattle.catalogue.proofs.Stages.{stopped, stops, tells}
 use Rattle.catalogue.proofs.Walks.{empty-yes, empty-no}
 use Rattle.catalogue.proofs.validation.catalog_outcome.Statement.{statement}

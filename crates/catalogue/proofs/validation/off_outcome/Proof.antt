@@ -4,7 +4,7 @@ use native.Mathlib.Omega.{arith}
 use mathlib.Core.Path.{_≡_, refl, _∙_}
 use Rattle.rules.specs.Records.{listedOf}
 use Rattle.rules.specs.Validate.{offFaults}
-use Rattle.kernel.specs.Refuse.{leading, toldLeading}
+use Rattle.outset.specs.Refuse.{leading, toldLeading}
 use Rattle.catalogue.proofs.Walks.{rest, on-here, off-here, off-all}
 use Rattle.catalogue.proofs.validation.off_outcome.Statement.{statement}
 use Rattle.catalogue.proofs.validation.off_outcome.Tie as tie

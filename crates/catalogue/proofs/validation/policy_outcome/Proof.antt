@@ -1,7 +1,7 @@
 -- `catalogue::policy_outcome` meets its contract. Assumes nothing.
 use Rattle.rules.specs.Validate.{policyFaults}
 use Rattle.rules.proofs.Choices.{below-yes, below-no}
-use Rattle.kernel.specs.Refuse.{leading, toldLeading}
+use Rattle.outset.specs.Refuse.{leading, toldLeading}
 use Rattle.catalogue.proofs.validation.policy_outcome.Statement.{statement}
 use Rattle.catalogue.proofs.validation.policy_outcome.Tie as tie
 

@@ -1,7 +1,7 @@
 -- `catalogue::validate` meets its contract: 1 and 2, then the catalogue. Assumes nothing.
 use borrow.Author.Needs.{needs}
 use Rattle.rules.specs.Validate.{validateOf}
-use Rattle.kernel.proofs.Refusals.{leading-told, none-told}
+use Rattle.outset.proofs.Refusals.{leading-told, none-told}
 use Rattle.catalogue.proofs.Stages.{stopped, stops}
 use Rattle.catalogue.proofs.validation.validate.Statement.{statement}
 use Rattle.catalogue.proofs.validation.validate.Tie as tie

@@ -2,7 +2,7 @@
 use borrow.Author.Needs.{needs}
 use mathlib.Core.Path.{ap}
 use mathlib.Core.Bool.{false}
-use Rattle.rules.specs.Numbers.{toldRefusal}
+use Rattle.rules.specs.Refused.{toldRefusal}
 use Rattle.rules.specs.Levers.{noDecision}
 use Rattle.counterfactual.specs.Levers.{boundaryWith}
 use Rattle.counterfactual.proofs.answer.refused.Statement.{statement}

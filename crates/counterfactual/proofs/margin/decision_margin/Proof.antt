@@ -2,9 +2,9 @@
 use borrow.Author.Needs.{needs}
 use mathlib.Core.Path.{refl, sym, _∙_}
 use Rattle.rules.specs.Margin.{decisionMarginOf}
-use Rattle.kernel.proofs.Refusals.{bank-room, none-told}
-use Rattle.kernel.proofs.Finding.{found-at}
-use Rattle.counterfactual.proofs.Listed.{without, with-place, boundary-passed, boundary-refused, stands-at, answer-made}
+use Rattle.outset.proofs.Refusals.{bank-room, none-told}
+use Rattle.outset.proofs.Finding.{found-at, without, with-place}
+use Rattle.counterfactual.proofs.Listed.{boundary-passed, boundary-refused, stands-at, answer-made}
 use Rattle.counterfactual.proofs.Margins.{margin-rejected, margin-nowhere, margin-listed}
 use Rattle.counterfactual.proofs.margin.decision_margin.Statement.{statement}
 use Rattle.counterfactual.proofs.margin.decision_margin.Tie as tie

@@ -2,9 +2,9 @@
 use borrow.Author.Needs.{needs}
 use mathlib.Core.Path.{sym, _∙_}
 use Rattle.rules.specs.Win.{whatWouldWinOf}
-use Rattle.kernel.proofs.Refusals.{bank-room, none-told}
-use Rattle.kernel.proofs.Finding.{found-at}
-use Rattle.counterfactual.proofs.Listed.{without, with-place, boundary-passed, boundary-refused, stands-at}
+use Rattle.outset.proofs.Refusals.{bank-room, none-told}
+use Rattle.outset.proofs.Finding.{found-at, without, with-place}
+use Rattle.counterfactual.proofs.Listed.{boundary-passed, boundary-refused, stands-at}
 use Rattle.counterfactual.proofs.Wins.{win-nowhere, win-listed}
 use Rattle.counterfactual.proofs.win.what_would_win.Statement.{statement}
 use Rattle.counterfactual.proofs.win.what_would_win.Tie as tie

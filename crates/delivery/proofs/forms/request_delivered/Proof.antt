@@ -8,8 +8,9 @@ use Rattle.rules.specs.Numbers.{toldRequest}
 use Rattle.rules.specs.Stored.{bodyOf, formFaults}
 use Rattle.splice.proofs.Pieces.{patched-start}
 use Rattle.rules.proofs.Faults.{room-enough}
-use Rattle.boundary.proofs.Handed.{Told, refused-place, answered-none, answered-word, answered-list}
-use Rattle.delivery.proofs.Wordings.{first-so, form-placeless}
+use Rattle.opening.proofs.Handed.{Told, refused-place, answered-none, answered-word, answered-list}
+use Rattle.opening.proofs.Wordings.{first-so}
+use Rattle.delivery.proofs.Places.{form-placeless}
 use Rattle.delivery.proofs.Answering.{request-told, request-short, told-so, told-more}
 use borrow.Author.Needs.{needs}
 use Rattle.delivery.proofs.forms.request_delivered.Statement.{statement}

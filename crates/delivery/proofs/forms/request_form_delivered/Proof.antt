@@ -2,11 +2,12 @@
 use mathlib.Core.Path.{ap}
 use denote.Ref.{now}
 use lib.ListN.{length}
-use Rattle.rules.specs.Numbers.{roomFaults, toldWritten}
+use Rattle.rules.specs.Refused.{roomFaults}
+use Rattle.rules.specs.Numbers.{toldWritten}
 use Rattle.rules.specs.Stored.{requestForm}
-use Rattle.boundary.proofs.Places.{rooms}
-use Rattle.boundary.proofs.Handed.{Told, refused-place, refused-word, answered-word}
-use Rattle.delivery.proofs.Wordings.{first-so, size-other}
+use Rattle.opening.proofs.Places.{rooms}
+use Rattle.opening.proofs.Handed.{Told, refused-place, refused-word, answered-word}
+use Rattle.opening.proofs.Wordings.{first-so, size-other}
 use Rattle.delivery.proofs.Answering.{request-form-told, request-form-so}
 use borrow.Author.Needs.{needs}
 use Rattle.delivery.proofs.forms.request_form_delivered.Statement.{statement}

@@ -1,9 +1,10 @@
 -- `delivery::roomless` meets its contract. Assumes nothing.
 use mathlib.Core.Path.{ap}
 use mathlib.Core.List.{[], _∷_, _++_}
-use Rattle.rules.specs.Numbers.{Faults, fault}
-use Rattle.kernel.proofs.Refusals.{append-refused, none-told}
-use Rattle.delivery.proofs.Wordings.{refused-so, first-so, leading-place, form-placeless}
+use Rattle.rules.specs.Refused.{Faults, fault}
+use Rattle.outset.proofs.Refusals.{append-refused, none-told}
+use Rattle.opening.proofs.Wordings.{refused-so, first-so, leading-place}
+use Rattle.delivery.proofs.Places.{form-placeless}
 use borrow.Author.Needs.{needs}
 use Rattle.delivery.proofs.forms.roomless.Statement.{statement}
 use Rattle.delivery.proofs.forms.roomless.Tie as tie

@@ -8,11 +8,12 @@ use Rattle.rules.specs.Bytes.{bytesOf}
 use Rattle.rules.specs.Records.{policyInBytes}
 use Rattle.rules.specs.Numbers.{toldStored, StoredPolicy}
 use Rattle.rules.specs.Stored.{storedPolicy, storedBank, readFaults}
-use Rattle.bank.proofs.Trips.{length-policy}
+use Rattle.packing.proofs.Trips.{length-policy}
 use Rattle.rules.proofs.Faults.{room-enough}
-use Rattle.boundary.proofs.Handed.{Told, refused-place, refused-word, refused-list, answered-word, answered-list}
-use Rattle.delivery.specs.Delivery.{wordSize, storedSize}
-use Rattle.delivery.proofs.Wordings.{read-placeless}
+use Rattle.opening.specs.Opening.{wordSize}
+use Rattle.opening.proofs.Handed.{Told, refused-place, refused-word, refused-list, answered-word, answered-list}
+use Rattle.delivery.specs.Delivery.{storedSize}
+use Rattle.delivery.proofs.Places.{read-placeless}
 use Rattle.delivery.proofs.Answering.{stored-told, told-more, roomless-so, models-so, policy-and-length}
 use borrow.Author.Needs.{needs}
 use Rattle.delivery.proofs.forms.stored_delivered.Statement.{statement}

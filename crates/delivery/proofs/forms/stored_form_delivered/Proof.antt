@@ -4,8 +4,9 @@ use denote.Ref.{now}
 use lib.ListN.{length}
 use Rattle.rules.specs.Numbers.{toldWritten}
 use Rattle.rules.specs.Stored.{storedForm, writeFaults}
-use Rattle.boundary.proofs.Handed.{Told, refused-place, refused-word, answered-word}
-use Rattle.delivery.proofs.Wordings.{first-so, size-other, write-placeless}
+use Rattle.opening.proofs.Handed.{Told, refused-place, refused-word, answered-word}
+use Rattle.opening.proofs.Wordings.{first-so, size-other}
+use Rattle.delivery.proofs.Places.{write-placeless}
 use Rattle.delivery.proofs.Answering.{stored-form-told, stored-form-so}
 use borrow.Author.Needs.{needs}
 use Rattle.delivery.proofs.forms.stored_form_delivered.Statement.{statement}

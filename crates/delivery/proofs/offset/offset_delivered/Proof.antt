@@ -3,13 +3,12 @@ use mathlib.Core.Path.{_≡_, _∙_}
 use mathlib.Core.List.{[]}
 use denote.Ref.{now}
 use lib.ListN.{length}
-use Rattle.kernel.proofs.Refusals.{append-refused, none-told}
+use Rattle.outset.proofs.Refusals.{append-refused, none-told}
 use Rattle.splice.proofs.Pieces.{patched-start}
-use Rattle.boundary.specs.Boundary.{lentFaults}
-use Rattle.boundary.proofs.Openings.{lent-room}
-use Rattle.boundary.proofs.Places.{lent-placeless}
-use Rattle.delivery.specs.Delivery.{wordSize}
-use Rattle.delivery.proofs.Wordings.{refused-so, first-so, answered-so, leading-place}
+use Rattle.opening.specs.Opening.{wordSize, lentFaults}
+use Rattle.opening.proofs.Openings.{lent-room}
+use Rattle.opening.proofs.Places.{lent-placeless}
+use Rattle.opening.proofs.Wordings.{refused-so, first-so, answered-so, leading-place}
 use Rattle.delivery.proofs.Answering.{place-beyond, place-within}
 use borrow.Author.Needs.{needs}
 use Rattle.delivery.proofs.offset.offset_delivered.Statement.{statement}

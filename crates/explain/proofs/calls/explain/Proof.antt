@@ -2,9 +2,9 @@
 use mathlib.Core.Path.{sym, ap, _∙_}
 use denote.Ref.{now}
 use borrow.Author.Needs.{needs}
-use Rattle.rules.specs.Numbers.{bankFaults, answered}
+use Rattle.rules.specs.Refused.{bankFaults, answered}
 use Rattle.rules.specs.Explain.{explainFaults, explainOf, explainList}
-use Rattle.kernel.proofs.Refusals.{unless-passed, unless-refused, checked-room}
+use Rattle.outset.proofs.Refusals.{unless-passed, unless-refused, checked-room}
 use Rattle.explain.proofs.Rooms.{room-there, list-passed, list-refused}
 use Rattle.explain.proofs.calls.explain.Statement.{statement}
 use Rattle.explain.proofs.calls.explain.Tie as tie

@@ -10,7 +10,7 @@ use Rattle.rules.specs.Limits.{explanationBytes}
 use Rattle.rules.specs.Wide.{val}
 use Rattle.rules.specs.Explain.{explanationRecord}
 use Rattle.endian.proofs.Stored.{byte-patch}
-use Rattle.bank.proofs.Packing.{laid-none, laid-more, laid-all}
+use Rattle.packing.proofs.Packing.{laid-none, laid-more, laid-all}
 use borrow.Author.Needs.{needs}
 use Rattle.explain.proofs.entry.entry_bytes.Statement.{statement}
 use Rattle.explain.proofs.entry.entry_bytes.Tie as tie

@@ -1,7 +1,7 @@
 -- `explain::explain_outcome` meets its contract. Assumes nothing.
 use mathlib.Core.Path.{sym, _∙_}
 use borrow.Author.Needs.{needs}
-use Rattle.kernel.proofs.Refusals.{append-passed, append-refused, bank-room, room-short}
+use Rattle.outset.proofs.Refusals.{append-passed, append-refused, bank-room, room-short}
 use Rattle.explain.proofs.Rooms.{room-open}
 use Rattle.explain.proofs.list.explain_outcome.Statement.{statement}
 use Rattle.explain.proofs.list.explain_outcome.Tie as tie

@@ -1,9 +1,9 @@
 -- `kernel::prescribe_checked` meets its contract. Assumes nothing.
 use mathlib.Core.Path.{sym, ap, _∙_}
 use borrow.Author.Needs.{needs}
-use Rattle.rules.specs.Numbers.{answered}
+use Rattle.rules.specs.Refused.{answered}
 use Rattle.rules.specs.Decide.{prescribeCheckedOf}
-use Rattle.kernel.proofs.Refusals.{unless-passed, unless-refused, checked-room}
+use Rattle.outset.proofs.Refusals.{unless-passed, unless-refused, checked-room}
 use Rattle.kernel.proofs.calls.prescribe_checked.Statement.{statement}
 use Rattle.kernel.proofs.calls.prescribe_checked.Tie as tie
 

@@ -2,7 +2,7 @@
 use mathlib.Core.Path.{sym, _∙_}
 use borrow.Author.Needs.{needs}
 use Rattle.rules.specs.Decide.{prescribeTracedOf}
-use Rattle.kernel.proofs.Refusals.{unless-passed, unless-refused, bank-room}
+use Rattle.outset.proofs.Refusals.{unless-passed, unless-refused, bank-room}
 use Rattle.kernel.proofs.calls.prescribe_with_trace.Statement.{statement}
 use Rattle.kernel.proofs.calls.prescribe_with_trace.Tie as tie
 

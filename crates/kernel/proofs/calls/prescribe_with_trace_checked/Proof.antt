@@ -2,7 +2,7 @@
 use mathlib.Core.Path.{sym, _∙_}
 use borrow.Author.Needs.{needs}
 use Rattle.rules.specs.Decide.{prescribeTracedCheckedOf}
-use Rattle.kernel.proofs.Refusals.{unless-passed, unless-refused, checked-room}
+use Rattle.outset.proofs.Refusals.{unless-passed, unless-refused, checked-room}
 use Rattle.kernel.proofs.calls.prescribe_with_trace_checked.Statement.{statement}
 use Rattle.kernel.proofs.calls.prescribe_with_trace_checked.Tie as tie
 

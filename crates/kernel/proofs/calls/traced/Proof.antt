@@ -2,9 +2,9 @@
 use native.Mathlib.Omega.{arith}
 use mathlib.Core.Path.{sym, _∙_}
 use borrow.Author.Needs.{needs}
-use Rattle.kernel.proofs.Stops.{open-decision, open-counts, stopped-decision, stopped-counts, traced-told}
+use Rattle.deciding.proofs.Stops.{open-decision, open-counts, stopped-decision, stopped-counts, traced-told}
 use Rattle.scan.proofs.Scanning.{start-room}
-use Rattle.kernel.proofs.Wholes.{whole-counts, whole-decides}
+use Rattle.deciding.proofs.Wholes.{whole-counts, whole-decides}
 use Rattle.kernel.proofs.calls.traced.Statement.{statement}
 use Rattle.kernel.proofs.calls.traced.Tie as tie
 

@@ -5,14 +5,14 @@ use denote.Ref.{now}
 use mathlib.Core.Path.{_≡_, sym, ap₂, _∙_}
 use mathlib.Core.List.{List}
 use borrow.Author.Needs.{needs}
-use Rattle.rules.specs.Numbers.{answered}
+use Rattle.rules.specs.Refused.{answered}
 use Rattle.rules.specs.Records.{listedOf}
 use Rattle.rules.specs.Decide.{tracedOf}
 use Rattle.rules.specs.declared.records.KernelInput.{KernelInput}
 use Rattle.rules.specs.declared.records.PolicySnapshot.{PolicySnapshot}
-use Rattle.kernel.proofs.Stops.{open-decision, open-counts, stopped-decision, stopped-counts, traced-told}
+use Rattle.deciding.proofs.Stops.{open-decision, open-counts, stopped-decision, stopped-counts, traced-told}
 use Rattle.scan.proofs.Scanning.{start-room}
-use Rattle.kernel.proofs.Wholes.{whole-counts, whole-decides}
+use Rattle.deciding.proofs.Wholes.{whole-counts, whole-decides}
 use Rattle.kernel.proofs.lent.traced_lent.Statement.{statement}
 use Rattle.kernel.proofs.lent.traced_lent.Tie as tie
 

@@ -2,7 +2,7 @@
 use mathlib.Core.Path.{sym, _∙_}
 use borrow.Author.Needs.{needs}
 use Rattle.rules.specs.Decide.{utilityForModelOf}
-use Rattle.kernel.proofs.Refusals.{unless-passed, unless-refused, bank-room}
+use Rattle.outset.proofs.Refusals.{unless-passed, unless-refused, bank-room}
 use Rattle.kernel.proofs.single.utility_for_model.Statement.{statement}
 use Rattle.kernel.proofs.single.utility_for_model.Tie as tie
 

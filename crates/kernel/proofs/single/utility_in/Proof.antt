@@ -1,32 +1,11 @@
 -- `kernel::utility_in` meets its contract. Assumes nothing.
-use mathlib.Core.Path.{_≡_, refl, sym, ap, _∙_}
-use mathlib.Core.List.{[], _∷_}
-use mathlib.Core.Logic.{⊎-elim}
-use mathlib.Core.Option.{Option, none, some}
+use mathlib.Core.Path.{sym, ap, _∙_}
 use borrow.Author.Needs.{needs}
-use borrow.Author.Tests.{eqb-false}
-use denote.Enum.Declared.{tagOf}
-use types.Run.{OneOf}
-use Prim.Native.Nat.{ℕ}
-use Rattle.rules.specs.Numbers.{answered, toldFound}
 use Rattle.rules.specs.Decide.{ifListed}
-use Rattle.rules.specs.declared.decision.Found.{Found}
-use Rattle.rules.specs.declared.decision.Found.the-variants.{Refused, At, Nowhere}
-use Rattle.rules.proofs.decision.Found.{the-type}
-use Rattle.kernel.proofs.Stops.{open-utility, stopped-utility}
-use Rattle.kernel.proofs.Finding.{found-at, found-nothing}
+use Rattle.deciding.proofs.Stops.{open-utility, stopped-utility}
+use Rattle.outset.proofs.Finding.{found-at, found-nothing, without, with-place}
 use Rattle.kernel.proofs.single.utility_in.Statement.{statement}
 use Rattle.kernel.proofs.single.utility_in.Tie as tie
-
--- an answer without a place found none
-without : (f : Found) (o : Option ℕ) → OneOf (0 ∷ 2 ∷ []) (tagOf the-type f) → toldFound f ≡ answered o → o ≡ none
-without (Refused r) o k e = cc
-without (At place) o k e = absurd (⊎-elim (eqb-false 1 0 refl) (eqb-false 1 2 refl) k)
-without Nowhere o k e = cc
-
--- and one with a place found that
-with-place : {f : Found} {place : ℕ} {o : Option ℕ} → f ≡ At place → toldFound f ≡ answered o → o ≡ some place
-with-place e h = let k = sym (ap toldFound e) ∙ h in cc
 
 returns : tie.Need-returns
 returns c =

@@ -3,9 +3,9 @@ use mathlib.Core.Path.{sym, ap, _∙_}
 use borrow.Author.Needs.{needs}
 use mir.Facts.{toZ-ofZ}
 use mir.Syntax.{w64}
-use Rattle.rules.specs.Numbers.{answered}
+use Rattle.rules.specs.Refused.{answered}
 use Rattle.rules.proofs.Choices.{equal-yes, equal-no}
-use Rattle.kernel.specs.Decide.{worthFrom}
+use Rattle.kernel.specs.Single.{worthFrom}
 use Rattle.kernel.proofs.single.worth_of.Statement.{statement}
 use Rattle.kernel.proofs.single.worth_of.Tie as tie
 

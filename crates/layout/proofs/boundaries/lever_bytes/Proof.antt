@@ -5,7 +5,7 @@ use lib.Dec.{lit≤}
 use lib.ListN.{replicate, length-set}
 use Rattle.rules.specs.Numbers.{toldCost}
 use Rattle.endian.proofs.Stored.{byte-patch}
-use Rattle.bank.proofs.Packing.{laid-none, laid-more, laid-all}
+use Rattle.packing.proofs.Packing.{laid-none, laid-more, laid-all}
 use Rattle.layout.specs.Layout.{leverSize, pricedNo, costOr, leverBytes}
 use Rattle.layout.proofs.Bytes.{priced-patch}
 use borrow.Author.Needs.{needs}

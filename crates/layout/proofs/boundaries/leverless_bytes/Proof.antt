@@ -4,7 +4,7 @@ use native.Mathlib.Omega.{arith}
 use lib.Dec.{lit≤}
 use lib.ListN.{replicate, length-set}
 use Rattle.rules.specs.Numbers.{toldDecision}
-use Rattle.bank.proofs.Packing.{laid-more}
+use Rattle.packing.proofs.Packing.{laid-more}
 use Rattle.layout.specs.Layout.{boundarySize, flagNo}
 use Rattle.layout.proofs.Bytes.{laid-decision, flag-patch, low-patch}
 use borrow.Author.Needs.{needs}

@@ -3,7 +3,7 @@ use mathlib.Core.Path.{refl}
 use lib.Dec.{lit≤}
 use lib.ListN.{replicate}
 use Rattle.rules.specs.Numbers.{toldDecision}
-use Rattle.bank.proofs.Packing.{laid-more, laid-all}
+use Rattle.packing.proofs.Packing.{laid-more, laid-all}
 use Rattle.layout.specs.Layout.{decisionSize, decisionBytes}
 use borrow.Author.Needs.{needs}
 use Rattle.layout.proofs.Bytes.{laid-decision}

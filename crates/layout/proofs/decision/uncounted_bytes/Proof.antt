@@ -7,7 +7,7 @@ use mir.Syntax.{w64}
 use mir.Val.{ofZ}
 use mir.ValLaws.{toZ-ofZ}
 use Rattle.rules.specs.Numbers.{actionNo, reasonNo}
-use Rattle.bank.proofs.Packing.{laid-none, laid-more, laid-all}
+use Rattle.packing.proofs.Packing.{laid-none, laid-more, laid-all}
 use Rattle.layout.specs.Layout.{uncountedSize, uncountedBytes}
 use borrow.Author.Needs.{needs}
 use Rattle.layout.proofs.Bytes.{action-patch}

@@ -4,7 +4,6 @@ use Prim.Native.Nat.{_-_, _*_, _^_, _≤_}
 use native.Mathlib.Omega.{arith}
 use borrow.Author.Needs.{needs}
 use Rattle.rules.specs.Price.{billed}
-use Rattle.pricing.proofs.Values.{product-le}
 use Rattle.pricing.proofs.price.billed_small.Statement.{statement}
 use Rattle.pricing.proofs.price.billed_small.Tie as tie
 

@@ -3,7 +3,7 @@ use mathlib.Core.Path.{_≡_}
 use mathlib.Core.List.{[]}
 use denote.Ref.{now}
 use Rattle.rules.specs.Printed.{programFaults}
-use Rattle.kernel.proofs.Refusals.{none-told}
+use Rattle.outset.proofs.Refusals.{none-told}
 use Rattle.inputs.proofs.Tests.{program-formed, bank-few}
 use Rattle.printed.proofs.Asks.{asking-refused, asking-listed, asking-unlisted, asking-never}
 use borrow.Author.Needs.{needs}

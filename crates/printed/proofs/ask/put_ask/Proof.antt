@@ -4,9 +4,9 @@ use mathlib.Core.List.{[]}
 use denote.Ref.{now}
 use Rattle.rules.specs.Numbers.{Boundary}
 use Rattle.rules.specs.Printed.{askFaults, askReport, askText}
-use Rattle.splice.proofs.Pieces.{written-as}
-use Rattle.kernel.proofs.Refusals.{none-told}
-use Rattle.inputs.specs.Opening.{Formed}
+use Rattle.splice.proofs.Pieces.{written, promised-as}
+use Rattle.outset.proofs.Refusals.{none-told}
+use Rattle.inputs.specs.Formed.{Formed}
 use Rattle.inputs.proofs.Tests.{program-formed}
 use Rattle.printed.proofs.Reports.{refused-text, passed-text}
 use Rattle.printed.proofs.Asks.{asking-passed, win-told}
@@ -16,7 +16,7 @@ use Rattle.printed.proofs.ask.put_ask.Tie as tie
 
 returns : tie.Need-returns
 unfolding askText
-returns c = written-as (c .before .before .put-refused .ensures .0) (refused-text _ _ (c .before .before .before .before .before .outcome .given .1) (c .before .before .before .before .before .before .before .ask-outcome .ensures))
+returns c = promised-as (written _ _ _ (c .before .before .put-refused .ensures .0)) (refused-text _ _ (c .before .before .before .before .before .outcome .given .1) (c .before .before .before .before .before .before .before .ask-outcome .ensures))
 
 -- the question passes
 none : (c : tie.After-enum-told) → askFaults (c .before .before .before .before .before .args .id) (now (c .before .before .before .before .before .args .input)) ≡ []
@@ -30,7 +30,7 @@ unfolding askText
 returns-2 c =
     let e = c .before .before .before .before .before .before .before .before in
     let b = win-told _ _ (formed e) (c .before .before .before .before .before .before .before .policy-in .ensures) (c .before .before .before .before .before .before .request-in .ensures) (c .before .before .before .before .before .bank-in .ensures) (c .before .before .before .before .what-would-win .ensures) in
-    written-as (c .before .before .put-asked .ensures) (ap (λ (x : Boundary). askReport (x .decision) x) b ∙ passed-text _ _ (none e))
+    promised-as (written _ _ _ (c .before .before .put-asked .ensures)) (ap (λ (x : Boundary). askReport (x .decision) x) b ∙ passed-text _ _ (none e))
 
 pub put-ask-spec : {M : Type 1} → statement M
 put-ask-spec =

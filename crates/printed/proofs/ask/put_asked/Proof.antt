@@ -1,14 +1,14 @@
 -- `printed::ask::put_asked` meets its contract. Assumes nothing.
 use Rattle.rules.specs.Text.{text}
 use Rattle.rules.specs.Printed.{passesLine, askReport}
-use Rattle.splice.proofs.Pieces.{written-then}
+use Rattle.splice.proofs.Pieces.{written-then, written, promised}
 use borrow.Author.Needs.{needs}
 use Rattle.printed.proofs.ask.put_asked.Statement.{statement}
 use Rattle.printed.proofs.ask.put_asked.Tie as tie
 
 returns : tie.Need-returns
 unfolding askReport passesLine text
-returns c = written-then (written-then (c .before .before .before .before .before .before .before .before .before .before .before .before .put-decision .ensures .0) (c .before .before .before .before .before .before .before .before .put-levers .ensures .0)) (c .before .before .put-line .ensures .0)
+returns c = promised (written-then (written-then (written _ _ _ (c .before .before .before .before .before .before .before .before .before .before .before .before .put-decision .ensures .0)) (written _ _ _ (c .before .before .before .before .before .before .before .before .put-levers .ensures .0))) (written _ _ _ (c .before .before .put-line .ensures .0)))
 
 pub put-asked-spec : {M : Type 1} → statement M
 put-asked-spec =

@@ -3,7 +3,7 @@ use mathlib.Core.Path.{refl, _∙_}
 use Rattle.rules.specs.Printed.{printOf, printBuffer}
 use Rattle.splice.proofs.Pieces.{patched-start}
 use Rattle.rules.proofs.Faults.{room-enough}
-use Rattle.kernel.proofs.Refusals.{room-short}
+use Rattle.outset.proofs.Refusals.{room-short}
 use Rattle.stored.proofs.Buffers.{passes, fills-in, stays}
 use borrow.Author.Needs.{needs}
 use Rattle.printed.proofs.deliver.deliver.Statement.{statement}

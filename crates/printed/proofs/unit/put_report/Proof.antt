@@ -1,5 +1,5 @@
 -- `printed::unit::put_report` meets its contract. Assumes nothing.
-use Rattle.splice.proofs.Pieces.{written-then, written-as}
+use Rattle.splice.proofs.Pieces.{written-then, written, promised-as}
 use Rattle.printed.proofs.Reports.{traced-never, traced-decision, traced-counts, margin-told, report-joins}
 use borrow.Author.Needs.{needs}
 use Rattle.printed.proofs.unit.put_report.Statement.{statement}
@@ -12,7 +12,7 @@ returns-2 : tie.Need-returns-2
 returns-2 c =
     let t = c .before .before .before .before .before .before .before .before .before .before .before .before .before .before .before .traced .given .1 in
     let h = c .before .before .before .before .before .before .before .before .before .before .before .before .before .before .before .before .before .prescribe-with-trace .ensures in
-    written-as (written-then (written-then (c .before .before .before .before .before .before .before .before .before .before .put-decision .ensures .0) (c .before .before .before .before .before .before .put-counts .ensures .0)) (c .before .before .put-levers .ensures .0))
+    promised-as (written-then (written-then (written _ _ _ (c .before .before .before .before .before .before .before .before .before .before .put-decision .ensures .0)) (written _ _ _ (c .before .before .before .before .before .before .put-counts .ensures .0))) (written _ _ _ (c .before .before .put-levers .ensures .0)))
     (report-joins _ _ _ (traced-decision _ _ _ t h) (traced-counts _ _ _ t h) (margin-told _ _ _ (c .before .before .before .before .before .before .before .before .before .before .before .before .before .before .before .before .before .before .before .before .pre .1) (c .before .before .before .before .before .before .before .before .before .before .before .before .before .decision-margin .ensures)))
 
 pub put-report-spec : {M : Type 1} → statement M

@@ -4,8 +4,8 @@ use mathlib.Core.List.{[]}
 use denote.Ref.{now}
 use Rattle.rules.specs.Records.{listedOf}
 use Rattle.rules.specs.Printed.{unitReport, unitText, programFaults}
-use Rattle.splice.proofs.Pieces.{written-as}
-use Rattle.kernel.proofs.Refusals.{none-told}
+use Rattle.splice.proofs.Pieces.{written, promised-as}
+use Rattle.outset.proofs.Refusals.{none-told}
 use Rattle.inputs.proofs.Tests.{program-formed, bank-whole}
 use Rattle.printed.proofs.Reports.{refused-text, passed-text}
 use borrow.Author.Needs.{needs}
@@ -14,7 +14,7 @@ use Rattle.printed.proofs.unit.put_unit.Tie as tie
 
 returns : tie.Need-returns
 unfolding unitText
-returns c = written-as (c .before .before .put-refused .ensures .0) (refused-text _ _ (c .before .before .before .before .before .outcome .given .1) (c .before .before .before .before .before .before .before .program-outcome .ensures))
+returns c = promised-as (written _ _ _ (c .before .before .put-refused .ensures .0)) (refused-text _ _ (c .before .before .before .before .before .outcome .given .1) (c .before .before .before .before .before .before .before .program-outcome .ensures))
 
 -- the input passes
 none : (c : tie.After-enum-told) → programFaults (now (c .before .before .before .before .before .args .input)) ≡ []
@@ -26,7 +26,7 @@ put-report-requires c κs = (search needs, rw (c .bank-in .ensures) (bank-whole 
 returns-2 : tie.Need-returns-2
 unfolding unitText
 returns-2 c =
-    written-as (c .before .before .put-report .ensures)
+    promised-as (written _ _ _ (c .before .before .put-report .ensures))
     ((λ i. unitReport (c .before .before .before .before .before .before .policy-in .ensures i) (c .before .before .before .before .before .request-in .ensures i) (listedOf (c .before .before .before .bank-in .ensures i))) ∙ passed-text _ _ (none (c .before .before .before .before .before .before .before)))
 
 pub put-unit-spec : {M : Type 1} → statement M

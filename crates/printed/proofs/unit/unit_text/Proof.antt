@@ -5,21 +5,26 @@ use mathlib.Core.List.{List}
 use denote.Ref.{now}
 use lib.ListN.{length}
 use Rattle.rules.specs.Printed.{printOf, printBuffer}
-use Rattle.splice.proofs.Pieces.{written-front}
+use Rattle.splice.proofs.Pieces.{written-front, written}
 use native.Mathlib.Omega.{arith}
 use borrow.Author.Needs.{needs}
 use Rattle.printed.proofs.unit.unit_text.Statement.{statement}
 use Rattle.printed.proofs.unit.unit_text.Tie as tie
 
+array-share-prefix-space : tie.Need-array-share-prefix-space
+array-share-prefix-space c =
+    let w = written _ _ _ (c .before .put-unit .ensures) in
+    omega (arith, w .ends, w .room, c .before .put-unit .kept .0)
+
 slice-aggregate-deliver : tie.Need-slice-aggregate-deliver
 slice-aggregate-deliver c =
-    let w = c .before .before .put-unit .ensures in
+    let w = written _ _ _ (c .before .before .put-unit .ensures) in
     omega (arith, ap length (written-front w), w .ends)
 
 returns : tie.Need-returns
 returns c =
     let d = c .before .before .deliver .ensures in
-    let w = c .before .before .before .before .before .before .put-unit .ensures in
+    let w = written _ _ _ (c .before .before .before .before .before .before .put-unit .ensures) in
     let f = written-front w in
     let out = now (c .before .before .before .before .before .before .before .before .before .before .args .out) in
     (d .0 ∙ ap (λ (t : List ℕ). printOf t (length out)) f, d .1 ∙ ap (λ (t : List ℕ). printBuffer t out) f, omega (arith, w .room))
@@ -30,7 +35,7 @@ unit-text-spec =
     (tie.spec
     (λ c. search needs)
     (λ c κs. search needs)
-    (λ c. search needs)
+    array-share-prefix-space
     slice-aggregate-deliver
     (λ c κs. search needs)
     (λ c. search needs)

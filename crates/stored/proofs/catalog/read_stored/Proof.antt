@@ -8,7 +8,7 @@ use denote.Ref.{now}
 use lib.ListN.{length}
 use Rattle.rules.specs.Records.{policyOf}
 use Rattle.rules.specs.Stored.{bodyOf, storedBank, readStoredOf, readStoredBuffer}
-use Rattle.kernel.proofs.Refusals.{none-told}
+use Rattle.outset.proofs.Refusals.{none-told}
 use Rattle.stored.proofs.Buffers.{stays}
 use Rattle.stored.proofs.Reading.{CatalogFields, catalog-fields, policy-length, reading-refused, reading-short, reading-none, stored-read}
 use Rattle.stored.proofs.catalog.read_stored.Statement.{statement}

@@ -7,11 +7,11 @@ use borrow.Author.Needs.{needs}
 use denote.Ref.{now}
 use lib.ListN.{length}
 use Rattle.rules.specs.Stored.{fieldBytes, storedForm, writeStoredOf, writeStoredBuffer}
-use Rattle.kernel.specs.Refuse.{leading}
-use Rattle.bank.proofs.Trips.{length-policy}
-use Rattle.splice.proofs.Pieces.{written-then, written-as}
+use Rattle.outset.specs.Refuse.{leading}
+use Rattle.packing.proofs.Trips.{length-policy}
+use Rattle.splice.proofs.Pieces.{written-then, written-as, written}
 use Rattle.stored.specs.Fields.{writingFaults}
-use Rattle.kernel.proofs.Refusals.{none-told}
+use Rattle.outset.proofs.Refusals.{none-told}
 use Rattle.stored.proofs.Buffers.{fills, stays}
 use Rattle.stored.proofs.Writing.{length-field, writing-refuses, writing-room}
 use Rattle.stored.proofs.catalog.write_stored.Statement.{statement}
@@ -47,7 +47,7 @@ put-field-requires-2 : tie.Need-put-field-requires-2
 put-field-requires-2 c κs =
     let p = c .before .before .before in
     let h = p .before .before .before in
-    omega (arith, thirty h, room (h .before), length-field 1 (h .policy-bytes .result), p .put-field .ensures .ends, p .put-field .kept .0)
+    omega (arith, thirty h, room (h .before), length-field 1 (h .policy-bytes .result), written _ _ _ (p .put-field .ensures) .ends, p .put-field .kept .0)
 
 returns-2 : tie.Need-returns-2
 unfolding writeStoredOf writeStoredBuffer storedForm
@@ -55,7 +55,7 @@ returns-2 c =
     let p = c .before .before .before .before .before .before in
     let h = p .before .before .before in
     let e = h .before in
-    let both = written-then (p .put-field .ensures) (c .before .before .put-field2 .ensures) in
+    let both = written-then (written _ _ _ (p .put-field .ensures)) (written _ _ _ (c .before .before .put-field2 .ensures)) in
     let policy = h .before .before .before .before .before .before .args .policy in
     fills _ (sym (writing-refuses policy (bank₀ e) (length (out₀ e))) ∙ none e)
     (written-as both (ap (λ (b : List ℕ). fieldBytes 1 b ++ fieldBytes 2 (bank₀ e)) (h .policy-bytes .ensures)))

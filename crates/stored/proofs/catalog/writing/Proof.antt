@@ -1,6 +1,6 @@
 -- `stored::catalog::writing` meets its contract. Assumes nothing.
 use mathlib.Core.Path.{refl}
-use Rattle.kernel.proofs.Refusals.{append-refused}
+use Rattle.outset.proofs.Refusals.{append-refused}
 use Rattle.stored.specs.Fields.{writingFaults}
 use Rattle.stored.proofs.Writing.{writing-many, writing-short, writing-passed}
 use borrow.Author.Needs.{needs}

@@ -3,7 +3,7 @@ use native.Mathlib.Omega.{arith}
 use borrow.Author.Needs.{needs}
 use Rattle.rules.specs.Bytes.{bytesOf}
 use Rattle.rules.specs.Stored.{fieldBytes}
-use Rattle.splice.proofs.Pieces.{written-one, written-then}
+use Rattle.splice.proofs.Pieces.{written-one, written-then, promised}
 use Rattle.stored.proofs.fields.put_field.Statement.{statement}
 use Rattle.stored.proofs.fields.put_field.Tie as tie
 
@@ -12,7 +12,7 @@ unfolding fieldBytes bytesOf
 returns c =
     let second = c .before .before in
     let first = c .before .before .before .before .before .before in
-    written-then (written-one _ _ (omega arith) (first .put-bytes .ensures)) (written-one _ _ (omega arith) (second .put-bytes2 .ensures))
+    promised (written-then (written-one _ _ (omega arith) (first .put-bytes .ensures)) (written-one _ _ (omega arith) (second .put-bytes2 .ensures)))
 
 pub put-field-spec : {M : Type 1} → statement M
 put-field-spec =

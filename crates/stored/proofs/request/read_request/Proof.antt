@@ -7,7 +7,7 @@ use borrow.Author.Needs.{needs}
 use denote.Ref.{now}
 use Rattle.rules.specs.Records.{inputOf}
 use Rattle.rules.specs.Stored.{formFaults, readRequestOf}
-use Rattle.kernel.proofs.Refusals.{unless-refused, none-told}
+use Rattle.outset.proofs.Refusals.{unless-refused, none-told}
 use Rattle.stored.proofs.OneField.{Passed}
 use Rattle.stored.proofs.Forms.{form-passed}
 use Rattle.stored.proofs.Reading.{request-length, request-read}

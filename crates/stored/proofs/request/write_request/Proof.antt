@@ -2,9 +2,9 @@
 use mathlib.Core.Path.{refl, ap}
 use native.Mathlib.Omega.{arith}
 use Rattle.rules.specs.Stored.{fieldBytes, requestForm, writeRequestOf, writeRequestBuffer}
-use Rattle.splice.proofs.Pieces.{written-as}
+use Rattle.splice.proofs.Pieces.{written-as, written}
 use Rattle.rules.proofs.Faults.{room-enough}
-use Rattle.kernel.proofs.Refusals.{room-short}
+use Rattle.outset.proofs.Refusals.{room-short}
 use Rattle.stored.proofs.Buffers.{fills, stays}
 use Rattle.stored.proofs.Writing.{length-request}
 use borrow.Author.Needs.{needs}
@@ -22,7 +22,7 @@ returns-2 c =
     let s = c .before .before .before .before .before .before .before .before in
     let b = c .before .before .before .before .before in
     fills _ (room-enough _ _ (omega (arith, length-request (s .args .input), b .before .if1 .left)))
-    (written-as (c .before .before .put-field .ensures) (ap (fieldBytes 3) (b .input-bytes .ensures)))
+    (written-as (written _ _ _ (c .before .before .put-field .ensures)) (ap (fieldBytes 3) (b .input-bytes .ensures)))
 
 pub write-request-spec : {M : Type 1} → statement M
 write-request-spec =

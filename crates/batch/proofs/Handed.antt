@@ -1,0 +1,143 @@
+-- What the walks share of what they are handed: the types that it has in the compiled code, and of the two batches also its machine
+-- values and what is owned of it.
+--     Handed     the policy, the bank, the row of requests and the row of decisions: where each stands, its ghost name and what it holds
+--     Filled     what `prescribe_batch` promises of its answer and of the row
+-- Assumes nothing.
+use mathlib.Core.Path.{_≡_}
+use mathlib.Core.List.{List, [], _∷_, map}
+use Prim.Native.Nat.{ℕ}
+use lib.ListN.{length}
+use mir.Syntax.{Ty, named, imm, mut, w8, w64, tyInt, tyRef}
+use mir.Val.{Val}
+use base.Fml.{Lft, Share, GName, Fml, fshr-bor}
+use contract.Lifetimes.{Lfts}
+use denote.Laws.{Is}
+use denote.Memory.{mem, shares, pointee}
+use denote.Builtin.{u8}
+use types.Share.{arr-parts}
+use denote.Ref.{RefT, now}
+use denote.Slice.{sliceTy, sliceVal, ShrSlice}
+use Rattle.rules.specs.Refused.{toldOutcome}
+use Rattle.rules.specs.Numbers.{toldDecision, Decision}
+use Rattle.rules.specs.Batch.{batchOf, batchRow}
+use Rattle.rules.specs.declared.records.KernelInput.{KernelInput}
+use Rattle.rules.specs.declared.records.PolicySnapshot.{PolicySnapshot}
+use Rattle.rules.specs.declared.decision.KernelDecision.{KernelDecision}
+use Rattle.rules.specs.declared.refusal.Outcome.{Outcome}
+use Rattle.rules.proofs.records.KernelInput as Q
+use Rattle.rules.proofs.records.PolicySnapshot as P
+use Rattle.rules.proofs.records.PolicySnapshot.Laws as P′
+use Rattle.rules.proofs.decision.KernelDecision as S
+
+-- the sizes of a request and of a decision
+abbrev pub Qsize : ℕ
+Qsize = mem Q.the-row .size
+
+abbrev pub Ssize : ℕ
+Ssize = mem S.the-row .size
+
+-- the types of the locals; of the row of requests by the number of its lifetime
+abbrev pub word : Ty
+word = tyInt w64
+
+abbrev pub bank-ty : Ty
+bank-ty = sliceTy (tyRef (named 0) imm (tyInt w8))
+
+abbrev pub reqs-ty : ℕ → Ty
+reqs-ty k = sliceTy (tyRef (named k) imm (pointee (Q.the-row .written)))
+
+abbrev pub row-ty : Ty
+row-ty = sliceTy (tyRef (named 2) mut (pointee (S.the-row .written)))
+
+-- a row of requests that is shared, once opened
+abbrev pub Shared : Lft → List KernelInput → ℕ → ℕ → Fml
+Shared κ rs b o = fshr-bor κ (λ t. arr-parts (shares Q.the-row) (length rs) .part t rs b o)
+
+pub record Handed : Type 0 where
+  pub κ₀ : Lft
+  pub κ₁ : Lft
+  pub κ₂ : Lft
+  pub q₀ : Share
+  pub q₁ : Share
+  pub q₂ : Share
+  pub pl : PolicySnapshot
+  pub gp : Is P.the-row pl (P′.lowered pl ∷ [])
+  pub s : RefT (List ℕ)
+  pub b₁ : ℕ
+  pub o₁ : ℕ
+  pub γ₁ : GName
+  pub rs : List KernelInput
+  pub b₂ : ℕ
+  pub o₂ : ℕ
+  pub γ₂ : GName
+  pub ys : List KernelDecision
+
+abbrev pub Arg : Type 0
+Arg = PolicySnapshot × (RefT (List ℕ) × (RefT (List KernelInput) × (RefT (List KernelDecision) × Unit {0})))
+
+-- it by lifetimes, shares and arguments
+abbrev pub handed : Lfts 3 → Share × (Share × (Share × Unit {0})) → (a : Arg) → Is P.the-row (a .0) (P′.lowered (a .0) ∷ []) → Handed
+handed κs qs a gp = record {
+  κ₀ = κs .0;
+  κ₁ = κs .1 .0;
+  κ₂ = κs .1 .1 .0;
+  q₀ = qs .0;
+  q₁ = qs .1 .0;
+  q₂ = qs .1 .1 .0;
+  pl = a .0;
+  gp = gp;
+  s = a .1 .0;
+  b₁ = a .1 .1 .0 .ptr .0;
+  o₁ = a .1 .1 .0 .ptr .1;
+  γ₁ = a .1 .1 .0 .name;
+  rs = a .1 .1 .0 .now;
+  b₂ = a .1 .1 .1 .0 .ptr .0;
+  o₂ = a .1 .1 .1 .0 .ptr .1;
+  γ₂ = a .1 .1 .1 .0 .name;
+  ys = a .1 .1 .1 .0 .now;
+}
+
+module _ (F : Handed) where
+  open Handed F using (κ₀, κ₁, κ₂, pl, s, b₁, o₁, γ₁, rs, b₂, o₂, γ₂, ys)
+
+  abbrev pub κs : Lfts 3
+  κs = (κ₀, (κ₁, (κ₂, tt)))
+
+  abbrev pub n : ℕ
+  n = length rs
+
+  -- the row of requests, and the row of decisions at the list l
+  abbrev pub rq : RefT (List KernelInput)
+  rq = record { ptr = (b₁, o₁); name = γ₁; now = rs }
+
+  abbrev pub ds : List KernelDecision → RefT (List KernelDecision)
+  ds l = record { ptr = (b₂, o₂); name = γ₂; now = l }
+
+  -- what document 01 tells of the row at entry
+  abbrev pub told-row : List Decision
+  told-row = map toldDecision ys
+
+  -- the machine values passed
+  abbrev pub vp : Val
+  vp = P′.lowered pl
+
+  abbrev pub v : Val
+  v = sliceVal (s .ptr) (length (s .now))
+
+  abbrev pub v₁ : Val
+  v₁ = sliceVal (b₁, o₁) n
+
+  abbrev pub v₂ : Val
+  v₂ = sliceVal (b₂, o₂) (length ys)
+
+  abbrev pub a : Arg
+  a = (pl, (s, (rq, (ds ys, tt))))
+
+  abbrev pub OwnBank : Fml
+  OwnBank = ShrSlice (named 0) κ₀ u8 .own s (v ∷ [])
+
+  abbrev pub OwnReqs : Fml
+  OwnReqs = ShrSlice (named 1) κ₁ Q.the-row .own rq (v₁ ∷ [])
+
+  abbrev pub Filled : Outcome → List KernelDecision → Type 0
+  Filled x l = (toldOutcome x ≡ batchOf (now s) rs (length ys)) × (map toldDecision l ≡ batchRow pl (now s) rs told-row)

@@ -1,0 +1,26 @@
+-- `opening::lent_outcome` meets its contract. Assumes nothing.
+use borrow.Author.Needs.{needs}
+use Rattle.rules.specs.Refused.{roomFaults}
+use Rattle.rules.proofs.Choices.{below-yes, below-no}
+use Rattle.outset.specs.Refuse.{leading, toldLeading}
+use Rattle.outset.proofs.Refusals.{append-passed, append-refused}
+use Rattle.opening.proofs.opening.lent_outcome.Statement.{statement}
+use Rattle.opening.proofs.opening.lent_outcome.Tie as tie
+
+returns : tie.Need-returns
+returns c = append-refused _ _ (c .before .outcome .given .1) (c .before .before .before .bank-outcome .ensures)
+
+returns-2 : tie.Need-returns-2
+unfolding roomFaults leading toldLeading
+returns-2 c =
+    rw (append-passed _ _ (c .before .enum-told .given .1) (c .before .before .before .bank-outcome .ensures), below-yes _ _ _ _ (c .if1 .taken))
+
+returns-3 : tie.Need-returns-3
+unfolding roomFaults leading toldLeading
+returns-3 c =
+    rw (append-passed _ _ (c .before .enum-told .given .1) (c .before .before .before .bank-outcome .ensures), below-no _ _ _ _ (c .if1 .left))
+
+pub lent-outcome-spec : {M : Type 1} → statement M
+lent-outcome-spec =
+    tie.close
+    (tie.spec (λ c κs. search needs) (λ c. search needs) returns (λ c. search needs) returns-2 returns-3)

@@ -1,0 +1,76 @@
+// What a call refuses before it decides: the lengths of what comes in, the bank, the room for the answer.
+use bank::input_of;
+use outset::refuse::bank_outcome;
+use outset::refuse::input_outcome;
+use rules::Outcome;
+use rules::Refusal;
+use rules::limits::POLICY_BYTES;
+use rules::limits::REQUEST_BYTES;
+ghost use mathlib.Core.Path.{_≡_};
+ghost use mathlib.Core.List.{_++_};
+ghost use Rattle.rules.specs.Records.{inputOf};
+ghost use Rattle.rules.specs.Decide.{requestFaults};
+ghost use Rattle.rules.specs.Refused.{firstFault, toldOutcome};
+ghost use Rattle.outset.specs.Refuse.{leading, toldLeading};
+ghost use Rattle.opening.specs.Opening.{lentFaults, openingFaults, checkFaults};
+
+// 1 or 2 for the bank, then 4 where the answer needs more room.
+pub fn lent_outcome(bank: &[u8], needed: usize, room: usize) -> Outcome
+    ensures { λ r. ⌜ toldLeading r ≡ leading (lentFaults (now (bank .entry)) needed room) ⌝ }
+{
+    let outcome = bank_outcome(bank.len());
+    if let Outcome::Refused(refusal) = outcome {
+        return Outcome::Refused(refusal);
+    }
+    if room < needed {
+        return Outcome::Refused(Refusal::NoRoom);
+    }
+    Outcome::Answered
+}
+
+// 22 for the policy or the request, then 1, 2 and 4.
+pub fn opening_outcome(
+    policy: &[u8],
+    request: &[u8],
+    bank: &[u8],
+    needed: usize,
+    room: usize,
+) -> Outcome
+    ensures { λ r. ⌜ toldLeading r ≡ leading (openingFaults (now (policy .entry)) (now (request .entry)) (now (bank .entry)) needed room) ⌝ }
+{
+    if policy.len() != POLICY_BYTES {
+        return Outcome::Refused(Refusal::WrongLength);
+    }
+    if request.len() != REQUEST_BYTES {
+        return Outcome::Refused(Refusal::WrongLength);
+    }
+    lent_outcome(bank, needed, room)
+}
+
+// The same, then 3 for the request.
+pub fn checked_opening(
+    policy: &[u8],
+    request: &[u8],
+    bank: &[u8],
+    needed: usize,
+    room: usize,
+) -> Outcome
+    ensures { λ r. ⌜ toldLeading r ≡ leading (openingFaults (now (policy .entry)) (now (request .entry)) (now (bank .entry)) needed room ++ requestFaults (inputOf (now (request .entry))) 0) ⌝ }
+{
+    let outcome = opening_outcome(policy, request, bank, needed, room);
+    if let Outcome::Refused(refusal) = outcome {
+        return Outcome::Refused(refusal);
+    }
+    let input = input_of(request);
+    input_outcome(input, 0)
+}
+
+// Of the request check alone: 22, then 3.
+pub fn request_outcome(request: &[u8]) -> Outcome
+    ensures { λ r. ⌜ toldOutcome r ≡ firstFault (checkFaults (now (request .entry))) ⌝ }
+{
+    if request.len() != REQUEST_BYTES {
+        return Outcome::Refused(Refusal::WrongLength);
+    }
+    input_outcome(input_of(request), 0)
+}
