@@ -36,7 +36,8 @@ pub fn explain(
     Prescribed::Decided(decide(policy, bank, input))
 }
 
-// `Explanation::eligible`, one step of it: the place of the first eligible entry at or after a place, in any list of whole entries.
+// `Explanation::eligible`, one step of it: the place of the first eligible entry at or after a place. Bytes after the
+// last whole entry are none.
 pub fn next_eligible(list: &[u8], from: usize) -> NextEligible
     ensures { λ r. ⌜ toldNext r ≡ nextEligibleOf (now (list .entry)) from ⌝ }
 {
