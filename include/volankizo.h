@@ -7,13 +7,20 @@
  * minimum quality (u16 each), latency limit u32, required capabilities u64, allowed providers u64, required regions u64.
  * A bank is any number of models up to 65,535, of 47 bytes each: id u32, provider u16, quality u16, ceiling u16, enabled u8, latency u32,
  * capabilities u64, regions u64, input price u64, output price u64.
+ * Quality, ceiling, risk, confidence, their limits and the multiplier are in basis points, latencies in ms, value, budget, penalty, cost
+ * and utility in microunits, prices in microunits per million tokens. A latency limit of 0 is none. Enabled other than 0 is on.
+ * A provider's number is its bit in the mask of allowed ones, and all ones allow each up to 63. A model needs every required capability and, where
+ * regions are required, one of them.
  *
  * A form is a row of fields. A field is a tag u8, the length of its body u16, and the body: a policy under tag 1; a bank of at most 1,394
  * records under tag 2; a request under tag 3. A stored form is tag 1, then tag 2; a request form is tag 3 alone.
+ * A form is read field by field, and the first fault comes back: no byte where a field is due, 21; a cut tag or length, 20; another tag, 21;
+ * a length that the tag does not have, 22; a cut body, 20; and after the last field any byte, 21. So of a stored form 01 1f 00 09 is 22,
+ * 09 1e 00 00 is 21, 01 1e 00 is 20.
  *
  * Every function takes any bytes. It answers 0 and writes its answer to the start of `out`, or answers a refusal and writes nothing (but for
  * volankizo_trust, see there); bytes of `out` after the answer stay as they were. A buffer that is written overlaps nothing else that is lent.
- * Of several refusals the first in the order given with each function comes back:
+ * Of several refusals the first in the order given with each function comes back, of a form's the first in the order above:
  *   22  a policy is not 30 bytes long, or a request not 70; in a form, a field has a length that its tag does not have
  *    1  the bank's length is no multiple of 47
  *    2  the bank has more than 65,535 records
@@ -32,9 +39,25 @@
  *   16  some id is 0
  *   17  enabled is above 1; with the id and the value
  *   18  the bank has more than 1,394 records, too many for a stored form
+ *   19  (as a program's text alone) the input has more than 900 models
  *   20  a form ends within a field
  *   21  a form has another tag where a field is due, or no byte, or a byte after its last field
- * as number + 2^8 * field + 2^16 * value + 2^32 * (id or place), see the macros below. */
+ * as number + 2^8 * field + 2^16 * value + 2^32 * (id or place), each 0 where none is told, see the macros below. A place would be that of a
+ * request in a batch, told with 3; no call here takes a batch, so it is always 0.
+ *
+ * The numbers in an answer:
+ *   action   1 the requested model, 2 another one, 3 none: a rejection
+ *   reason   1 and 2 as the action. Of a rejection: 100 the risk is at or above the hard limit, 101 the confidence is below the minimum; else by
+ *            the largest count 102 disabled, 103 quality, 104 latency, 105 capability, 106 provider, 107 region, 108 budget, 109 utility,
+ *            110 ceiling; of equal counts the last of 105, 107, 106, 103, 110, 104, 108, 109, 102; of an empty bank 102
+ *   verdict  1 rejected by a gate, 2 the cost is above the budget, 3 the utility is 0 or less, 4 eligible
+ *   gate     the first that a record fails, with (measured, limit): 1 switched off (0, 1); 2 quality below the minimum (quality, minimum);
+ *            3 latency above the limit (latency, limit); 4 a required capability is missing (capabilities, required); 5 provider above 63
+ *            (provider, 63); 6 provider not allowed (provider, mask); 7 none of the required regions (regions, required); 8 risk
+ *            above the ceiling (risk, ceiling). Gates 5 and 6 share the count of providers
+ *   lever    1 quality, 2 latency, 3 price scale: both prices, in millionths of today's (1,000,000), 4 ceiling, 5 enabled
+ * A rejection has model 0, place 65,535, cost and utilities 0; after 100 or 101 nothing is evaluated, and every count is 0. Where no second
+ * model is eligible, the counterfactual model and its utility are 0. */
 #ifndef VOLANKIZO_H
 #define VOLANKIZO_H
 
@@ -95,14 +118,14 @@ uint64_t volankizo_check_request(const uint8_t *request, size_t request_len);
 
 /* Decides, and tells what became of every record. `out`: 65 bytes, the decision as above without its counts. `list`: 72 bytes for each
  * record, in the order of the bank, and none where the request is stopped by 100 or 101: model u32 at 0, place u16 at 4, verdict u8 at 6
- * (1 rejected, 2 over budget, 3 utility not positive, 4 eligible), gate u8 at 7 (1 to 8, else 0), measured, cost or quality term at 8 and
- * limit, budget or risk term at 24 (16 bytes each), cost u64 at 40, latency term at 48 (16 bytes), utility i64 at 64; from 40 on zero for
- * verdicts 1 and 2. Bytes of `list` after the last entry stay. Refusals: 22, 1, 2, 4 (of either buffer). */
+ * (1 to 4), gate u8 at 7 (1 to 8, else 0), measured, cost or quality term at 8 and limit, budget or risk term at 24 (16 bytes each, for
+ * verdicts 1, 2, and 3 or 4), cost u64 at 40, latency term at 48 (16 bytes), utility i64 at 64; from 40 on zero for verdicts 1 and 2. Bytes of
+ * `list` after the last entry stay. Refusals: 22, 1, 2, 4 (of either buffer). */
 uint64_t volankizo_explain(const uint8_t *policy, size_t policy_len, const uint8_t *request, size_t request_len, const uint8_t *bank,
                            size_t bank_len, uint8_t *list, size_t list_len, uint8_t *out, size_t out_len);
 
-/* The place of the next eligible entry (verdict 4) of such a list, at or after `from`: 8 bytes, u64; 2^64 - 1 where there is none.
- * Refusals: 4. */
+/* The place of the next eligible entry (verdict 4) of such a list, at or after `from`: 8 bytes, u64; 2^64 - 1 where there is none. Any bytes may
+ * be asked about; a part of an entry at their end, where they are no multiple of 72, is ignored. Refusals: 4. */
 uint64_t volankizo_next_eligible(const uint8_t *list, size_t list_len, uint64_t from, uint8_t *out, size_t out_len);
 
 /* Whether a policy with its bank may serve. Writes nothing. Refusals: 22, 1, 2, 10, 11, then record by record 12, 13, 14, then 15. */
@@ -114,13 +137,17 @@ uint64_t volankizo_trust(const uint8_t *policy, size_t policy_len, uint8_t *bank
 
 /* For a model that was not selected, by each lever alone: the smallest change after which it is. 183 bytes: the decision without its counts at
  * 0, model u32 at 65, blocked by the request u8 at 69 (1 where 100 or 101 stops it), count of levers u8 at 70, passes u64 at 71; then four
- * rooms of 26 bytes from 79 on, the unused ones zero, in each: lever u8 at 0 (1 quality, 2 latency, 3 price scale, 4 ceiling, 5 enabled),
- * current u64 at 1, boundary u64 at 9, priced u8 at 17 (1 where a cost is carried), cost u64 at 18.
+ * rooms of 26 bytes from 79 on, the unused ones zero, in each: lever u8 at 0 (1 to 5), current u64 at 1, boundary u64 at 9, priced u8 at 17 (1
+ * where a cost is carried, by the price alone), cost u64 at 18. Each lever that is listed is enough by itself. Searched are quality and ceiling
+ * from today to 10,000, latency and price scale from today down to 0; a lever by which the model wins nowhere there is not listed. Of a model
+ * that is off only enabled is tried. A stopped request, or an id that is selected already, has no lever and 1 pass.
  * Refusals: 22, 1, 2, 4, 5. */
 uint64_t volankizo_what_would_win(const uint8_t *policy, size_t policy_len, const uint8_t *request, size_t request_len, const uint8_t *bank,
                                   size_t bank_len, uint32_t id, uint8_t *out, size_t out_len);
 
-/* For the model that was selected: how far each lever can move before it is not. The same 183 bytes. Refusals: 22, 1, 2, 4, 6. */
+/* For the model that was selected: how far each lever can move before it is not. The same 183 bytes; a boundary is the last setting that
+ * keeps the choice. Searched are quality and ceiling from today down to 0, latency up to 2^32 - 1, price scale up to 1,000,000,000. Quality is
+ * always listed; another lever that is not listed cannot lose the choice within its range. Refusals: 22, 1, 2, 4, 6. */
 uint64_t volankizo_decision_margin(const uint8_t *policy, size_t policy_len, const uint8_t *request, size_t request_len,
                                    const uint8_t *bank, size_t bank_len, uint8_t *out, size_t out_len);
 
@@ -133,24 +160,28 @@ uint64_t volankizo_write_stored(const uint8_t *policy, size_t policy_len, const 
 
 /* Reads a stored form. The models' bytes go to the start of `bank`, whose other bytes stay; `out`: 38 bytes, the policy at 0, the length of
  * the models' bytes u64 at 30. Neither buffer is written before the form's end was seen and both have room; nothing is validated or put in
- * order. Refusals: 20, 21, 22 at each field in its turn, then 4 (of either buffer). */
+ * order. Refusals: those of a form (20, 21, 22, in the order told above), then 4 (of either buffer). */
 uint64_t volankizo_read_stored(const uint8_t *form, size_t form_len, uint8_t *bank, size_t bank_len, uint8_t *out, size_t out_len);
 
 /* Writes the request form: 73 bytes. Refusals: 22, 4. */
 uint64_t volankizo_write_request(const uint8_t *request, size_t request_len, uint8_t *out, size_t out_len);
 
-/* Reads a request form: 70 bytes, the request. Refusals: 20, 21, 22, 4. */
+/* Reads a request form: 70 bytes, the request. Refusals: those of a form (20, 21, 22, in the order told above), then 4. */
 uint64_t volankizo_read_request(const uint8_t *form, size_t form_len, uint8_t *out, size_t out_len);
 
 /* What the unit's program prints for an input of tags 1, 2 and 3: the text's length in bytes u64 at 0, the text from 8 on, in ASCII with a
- * newline after each line and no zero after the last. 848 bytes always suffice. An input that the program refuses is answered too: its text
- * is `refused` and the number. Refusals: 4. */
+ * newline after each line and no zero after the last. 848 bytes always suffice. The lines: `decision` and its numbers, `rejected` and the
+ * nine counts, both in the order above; for each lever of the margin `lever`, its number, today's value, the boundary, and the cost or `-`. An
+ * input that the program refuses is answered too: its text is `refused` and the number, by a form's faults, then 19, then as by
+ * volankizo_validate, then 3. Refusals: 4. */
 uint64_t volankizo_unit_text(const uint8_t *input, size_t input_len, uint8_t *out, size_t out_len);
 
-/* The same for what would make a model win, as `ask ID` prints it. 808 bytes always suffice. Refusals: 4. */
+/* The same for what would make a model win, as `ask ID` prints it: `decision`, a `lever` for each that wins by itself, `passes` and their
+ * number; or `refused`, last of all with 5. 808 bytes always suffice. Refusals: 4. */
 uint64_t volankizo_ask_text(const uint8_t *input, size_t input_len, uint32_t id, uint8_t *out, size_t out_len);
 
-/* The same in words, as `ask ID words` prints it. 808 bytes always suffice. Refusals: 4. */
+/* The same in words, as `ask ID words` prints it: a sentence for each lever, or one that says why there is none. 808 bytes always suffice.
+ * Refusals: 4. */
 uint64_t volankizo_ask_words(const uint8_t *input, size_t input_len, uint32_t id, uint8_t *out, size_t out_len);
 
 #ifdef __cplusplus

@@ -3,6 +3,8 @@
 //!
 //!     cargo run --offline --example pick -- ../../target/pick.input
 use std::error::Error;
+use std::path::Path;
+use std::process::exit;
 use volankizo::{
     what_would_win, write_request, write_stored, Bank, CandidateVerdict, KernelInput, KernelModel, PolicySnapshot,
     ALL_PROVIDERS,
@@ -57,7 +59,14 @@ const REQUEST: KernelInput = KernelInput {
     required_region_mask: 0,
 };
 
-fn main() -> Result<(), Box<dyn Error>> {
+fn main() {
+    if let Err(why) = pick() {
+        eprintln!("pick: {why}");
+        exit(1);
+    }
+}
+
+fn pick() -> Result<(), Box<dyn Error>> {
     // In any order: trusting puts the bank in the order of the ids, and refuses what may not serve.
     let mut bank = Bank::from_models(&[SECOND, FIRST]);
     POLICY.trust(&mut bank)?;
@@ -93,7 +102,7 @@ fn main() -> Result<(), Box<dyn Error>> {
     if let Some(path) = std::env::args_os().nth(1) {
         let mut input = write_stored(&POLICY, &bank)?;
         input.extend(write_request(REQUEST)?);
-        std::fs::write(path, &input)?;
+        std::fs::write(&path, &input).map_err(|why| format!("{}: {why}", Path::new(&path).display()))?;
         println!("wrote {} bytes for unit", input.len());
     }
     Ok(())

@@ -1,7 +1,7 @@
 //! Models in packed bytes.
 use crate::ffi;
 use crate::layout::{broken, OFFSET_BYTES, PLACE_BYTES, RECORD_BYTES};
-use crate::records::KernelModel;
+use crate::records::{KernelModel, MAX_CATALOG_MODELS};
 use crate::refusal::Refusal;
 use std::ops::{Deref, DerefMut};
 
@@ -67,7 +67,7 @@ pub fn record_at(bank: &[u8], place: u64) -> Result<&[u8; RECORD_BYTES], Refusal
 
 /// The models of a bank in their order. Refusals: 1, 2.
 pub fn models(bank: &[u8]) -> Result<Vec<KernelModel>, Refusal> {
-    let mut models = Vec::with_capacity(bank.len() / RECORD_BYTES);
+    let mut models = Vec::with_capacity((bank.len() / RECORD_BYTES).min(MAX_CATALOG_MODELS));
     loop {
         match record_at(bank, models.len() as u64) {
             Ok(record) => models.push(KernelModel::from_bytes(record)),

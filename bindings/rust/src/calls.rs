@@ -6,7 +6,7 @@ use crate::layout::{
     broken, Fields, BOUNDARY_BYTES, DECISION_BYTES, EXPLANATION_BYTES, NEXT_BYTES, RECORD_BYTES, UNCOUNTED_BYTES,
     UTILITY_BYTES,
 };
-use crate::records::{KernelInput, PolicySnapshot};
+use crate::records::{KernelInput, PolicySnapshot, MAX_CATALOG_MODELS};
 use crate::refusal::Refusal;
 use crate::verdict::{CandidateExplanation, Explanation};
 
@@ -52,7 +52,9 @@ impl PolicySnapshot {
 
     /// Decides, and tells what became of each model. Refusals: 1, 2.
     pub fn explain(&self, bank: &[u8], input: KernelInput) -> Result<Explanation, Refusal> {
-        let mut list = vec![0; bank.len() / RECORD_BYTES * EXPLANATION_BYTES];
+        // A longer bank is refused before the list is looked at.
+        let models = (bank.len() / RECORD_BYTES).min(MAX_CATALOG_MODELS);
+        let mut list = vec![0; models * EXPLANATION_BYTES];
         let decision = self.explain_into(bank, input, &mut list)?;
         let entries = list.chunks_exact(EXPLANATION_BYTES).take(decision.evaluated_models.into());
         Ok(Explanation { decision, candidates: entries.map(told).collect() })

@@ -1,5 +1,5 @@
 //! The library's functions as they are: bytes in, a word back. 0 says that the call answered, anything else is a refusal, which
-//! [`Refusal::told`](crate::Refusal::told) reads. What each one takes, writes and refuses stands in `include/volankizo.h`.
+//! [`Refusal::read`](crate::Refusal::read) reads. What each one takes, writes and refuses stands in `include/volankizo.h`.
 //!
 //! Everything unsafe of this crate is here, and one argument holds for all of it. For any bytes a function reads and writes within the
 //! lengths that it is handed, and ends; that is proved of it. It keeps no address and has no state. What is left to its caller is that

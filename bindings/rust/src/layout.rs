@@ -33,9 +33,9 @@ pub const UNIT_TEXT_BYTES: usize = 848;
 /// The same for both texts of `ask`.
 pub const ASK_TEXT_BYTES: usize = 808;
 
-/// A stored form with a bank of so many bytes.
+/// A stored form with a bank of so many bytes, held at `usize::MAX`.
 pub const fn stored_form_bytes(bank_bytes: usize) -> usize {
-    FIELD_HEADER_BYTES + POLICY_BYTES + FIELD_HEADER_BYTES + bank_bytes
+    (FIELD_HEADER_BYTES + POLICY_BYTES + FIELD_HEADER_BYTES).saturating_add(bank_bytes)
 }
 
 /// Fields that are taken off the front of some bytes.

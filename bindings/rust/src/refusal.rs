@@ -49,17 +49,14 @@ pub enum Refusal {
 }
 
 impl Refusal {
-    /// What a word that a call of [`ffi`](crate::ffi) hands back tells: 0 that it answered, anything else why it didn't.
-    ///
-    /// # Panics
-    ///
-    /// On a number that no call hands back.
-    pub fn told(word: u64) -> Result<(), Refusal> {
+    /// What a word that a call of [`ffi`](crate::ffi) hands back tells: 0 that it answered, anything else why it didn't. `None` where
+    /// its number is none that a call hands back.
+    pub fn read(word: u64) -> Option<Result<(), Refusal>> {
         if word == 0 {
-            return Ok(());
+            return Some(Ok(()));
         }
         let (number, field, value, id) = (word as u8, (word >> 8) as u8, (word >> 16) as u16, (word >> 32) as u32);
-        Err(match number {
+        Some(Err(match number {
             1 => Refusal::UnevenBank,
             2 => Refusal::CatalogTooLarge,
             3 => Refusal::InputOutOfRange { field, value, place: id },
@@ -80,8 +77,13 @@ impl Refusal {
             20 => Refusal::CutShort,
             21 => Refusal::WrongTag,
             22 => Refusal::WrongLength,
-            _ => broken("a refusal that has no number"),
-        })
+            _ => return None,
+        }))
+    }
+
+    /// The same of a word that a call has just handed back.
+    pub(crate) fn told(word: u64) -> Result<(), Refusal> {
+        Refusal::read(word).unwrap_or_else(|| broken("a refusal that has no number"))
     }
 
     /// Its number, as in `include/volankizo.h`.

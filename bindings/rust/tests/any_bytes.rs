@@ -10,6 +10,11 @@ const UNTOUCHED: u8 = 0xa5;
 /// A call, but for its buffer.
 type Call<'a> = &'a dyn Fn(&mut [u8]) -> u64;
 
+/// What a word tells; every word that a call hands back tells something.
+fn tells(word: u64) -> Result<(), Refusal> {
+    Refusal::read(word).unwrap_or_else(|| panic!("{word:#x} tells nothing"))
+}
+
 /// Bytes of the right length, and once in a while of any length near it.
 fn near(source: &mut Source, length: usize) -> Vec<u8> {
     let length = if source.below(8) == 0 { source.below(length + 3) } else { length };
@@ -82,11 +87,11 @@ fn any_form(source: &mut Source) -> Vec<u8> {
 fn ask(source: &mut Source, need: usize, call: impl Fn(&mut [u8]) -> u64) -> Result<(), Refusal> {
     let room = [0, need - 1, need, need + 9][source.below(4)];
     let mut out = vec![UNTOUCHED; room];
-    let told = Refusal::told(call(&mut out));
+    let told = tells(call(&mut out));
     let written = if told.is_ok() { need } else { 0 };
     assert!(written <= room && out[written..].iter().all(|byte| *byte == UNTOUCHED), "{told:?} with room {room}");
     let mut again = vec![0; room];
-    assert_eq!(Refusal::told(call(&mut again)), told);
+    assert_eq!(tells(call(&mut again)), told);
     assert_eq!(again[..written], out[..written], "every byte of the answer is written");
     told
 }
@@ -114,8 +119,8 @@ fn the_calls_as_they_are() {
             ask(source, REQUEST_BYTES, |out| ffi::read_request(form, out)),
             ask(source, UNCOUNTED_BYTES, |out| ffi::explain(p, q, b, &mut [0; 6 * EXPLANATION_BYTES], out)),
             ask(source, STORED_POLICY_BYTES, |out| ffi::read_stored(form, &mut [0; 300], out)),
-            Refusal::told(ffi::check_request(q)),
-            Refusal::told(ffi::validate(p, b)),
+            tells(ffi::check_request(q)),
+            tells(ffi::validate(p, b)),
         ];
         answered += answers.iter().filter(|answer| answer.is_ok()).count();
     }
@@ -162,7 +167,7 @@ fn an_explanation_fills_its_entries() {
         let whole = bank.len() / RECORD_BYTES * EXPLANATION_BYTES;
         let room = [0, whole.saturating_sub(1), whole, whole + 9][source.below(4)];
         let (mut list, mut out) = (vec![UNTOUCHED; room], [UNTOUCHED; UNCOUNTED_BYTES]);
-        let written = match Refusal::told(ffi::explain(&policy, &request, &bank, &mut list, &mut out)) {
+        let written = match tells(ffi::explain(&policy, &request, &bank, &mut list, &mut out)) {
             Ok(()) => usize::from(u16::from_le_bytes([out[45], out[46]])) * EXPLANATION_BYTES,
             Err(_) => {
                 assert_eq!(out, [UNTOUCHED; UNCOUNTED_BYTES]);
@@ -185,7 +190,7 @@ fn trust_only_orders() {
         let source = &mut Source(seed);
         let (policy, before) = (any_policy(source), any_bank(source));
         let mut bank = before.clone();
-        let told = Refusal::told(ffi::trust(&policy, &mut bank)).map_err(Refusal::number);
+        let told = tells(ffi::trust(&policy, &mut bank)).map_err(Refusal::number);
         let mut ordered: Vec<_> = before.chunks(RECORD_BYTES).collect();
         ordered.sort_by_key(|record| record.first_chunk().map(|id| u32::from_le_bytes(*id)));
         match told {
@@ -229,7 +234,7 @@ fn a_text_that_has_no_room_is_not_written() {
             let need = 8 + u64::from_le_bytes(*whole.first_chunk().unwrap()) as usize;
             assert!(whole[need..].iter().all(|byte| *byte == UNTOUCHED));
             let mut short = vec![UNTOUCHED; need - 1];
-            assert_eq!(Refusal::told(call(&mut short)), Err(Refusal::NoRoom));
+            assert_eq!(tells(call(&mut short)), Err(Refusal::NoRoom));
             assert!(short.iter().all(|byte| *byte == UNTOUCHED));
             let mut exact = vec![UNTOUCHED; need];
             assert_eq!((call(&mut exact), &exact[..]), (0, &whole[..need]));

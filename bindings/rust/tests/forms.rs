@@ -1,9 +1,9 @@
 //! Stored form, request form and texts: round trips, and the worked example's bytes and lines.
 mod common;
-use common::{example_bank, many, Source, POLICY, REQUEST, UNIT_INPUT};
+use common::{example_bank, many, Source, FIRST, POLICY, REQUEST, SECOND, UNIT_INPUT};
 use volankizo::{
     ask_text, ask_words, read_request, read_stored, read_stored_into, unit_text, write_request, write_stored, Bank,
-    KernelInput, PolicySnapshot, MAX_STORED_MODELS,
+    KernelInput, KernelModel, PolicySnapshot, MAX_STORED_MODELS,
 };
 
 const LINES: &str = "\
@@ -13,6 +13,15 @@ lever 1 8000 7000 -
 lever 2 50 150 -
 lever 3 1000000 4330000 1299
 lever 4 8000 1000 -
+";
+
+const WORDS: &str = "Price: 100 percent today; it must fall by at least 55.6667 percent, to 44.3333 percent; \
+the request then costs 798 microunits.\n";
+
+const THREE: &str = "\
+Quality: 9000 basis points today; it must rise to at least 9101.
+Latency: 100 ms today; it must fall to at most 89 ms.
+Price: 100 percent today; it must fall by at least 11.3334 percent, to 88.6666 percent; the request then costs 798 microunits.
 ";
 
 #[test]
@@ -72,10 +81,18 @@ fn a_rejection_has_two_lines() {
 fn the_desks_question() {
     let text = ask_text(UNIT_INPUT, 1).unwrap();
     assert_eq!(text, "decision 42 2 2 2 1 300 6200 1 5200 2 2 7 3\nlever 3 1000000 443333 798\npasses 26\n");
-    let words = ask_words(UNIT_INPUT, 1).unwrap();
-    assert!(words.ends_with('\n') && words.contains("44.3333"), "{words}");
-    assert_ne!(text, words);
+    assert_eq!(ask_words(UNIT_INPUT, 1).unwrap(), WORDS);
+    assert_eq!(ask_words(UNIT_INPUT, 2).unwrap(), "Model 2 is chosen already.\n");
     assert_eq!(ask_text(UNIT_INPUT, 3).unwrap(), "refused 5\n");
+    assert_eq!(ask_words(UNIT_INPUT, 3).unwrap(), "refused 5\n");
+}
+
+#[test]
+fn a_sentence_for_each_lever() {
+    let first = KernelModel { output_cost_microunits_per_million_tokens: 6_000_000, ..FIRST };
+    let mut input = write_stored(&POLICY, &Bank::from_models(&[first, SECOND])).unwrap();
+    input.extend(write_request(REQUEST).unwrap());
+    assert_eq!(ask_words(&input, 1).unwrap(), THREE);
 }
 
 #[test]

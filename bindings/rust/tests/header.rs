@@ -56,4 +56,5 @@ fn the_same_sizes() {
     ];
     assert_eq!(BTreeMap::from(ours), numbers());
     assert_eq!((stored_form_bytes(0), stored_form_bytes(94)), (36, 130));
+    assert_eq!((stored_form_bytes(usize::MAX - 36), stored_form_bytes(usize::MAX)), (usize::MAX, usize::MAX));
 }

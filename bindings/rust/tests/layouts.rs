@@ -1,9 +1,9 @@
 //! That every field of an answer is read from its own place: values that all differ, and all the verdicts.
 mod common;
-use common::{Source, FIRST, POLICY, REQUEST};
-use volankizo::layout::EXPLANATION_BYTES;
+use common::{example_bank, Source, FIRST, POLICY, REQUEST};
+use volankizo::layout::{BOUNDARY_BYTES, EXPLANATION_BYTES};
 use volankizo::{
-    next_eligible, Bank, CandidateExplanation, CandidateVerdict, GateKind, KernelInput, KernelModel, KernelReason,
+    ffi, next_eligible, Bank, CandidateExplanation, CandidateVerdict, GateKind, KernelInput, KernelModel, KernelReason,
     PolicySnapshot, RejectionHistogram,
 };
 
@@ -108,6 +108,25 @@ fn terms_beyond_64_bits() {
     assert_eq!(terms.utility, i64::MIN);
 }
 
+/// A room of a boundary's 183 bytes: lever, today, boundary, and the cost where it is the price's.
+fn room(lever: u8, current: u64, boundary: u64, cost: Option<u64>) -> Vec<u8> {
+    let numbers = [current.to_le_bytes(), boundary.to_le_bytes()].concat();
+    [&[lever], &numbers[..], &[cost.is_some().into()], &cost.unwrap_or(0).to_le_bytes()].concat()
+}
+
+#[test]
+fn the_rooms_of_a_boundary() {
+    let (policy, request, bank) = (POLICY.to_bytes(), REQUEST.to_bytes(), example_bank());
+    let mut out = [0xaa; BOUNDARY_BYTES];
+    assert_eq!(ffi::what_would_win(&policy, &request, &bank, 1, &mut out), 0);
+    let unused = vec![0; 3 * 26];
+    assert_eq!(out[79..], [room(3, 1_000_000, 443_333, Some(798)), unused].concat());
+    assert_eq!(ffi::decision_margin(&policy, &request, &bank, &mut out), 0);
+    let price = room(3, 1_000_000, 4_330_000, Some(1_299));
+    let rooms = [room(1, 8_000, 7_000, None), room(2, 50, 150, None), price, room(4, 8_000, 1_000, None)];
+    assert_eq!(out[79..], rooms.concat());
+}
+
 #[test]
 fn a_lent_list() {
     let bank = Bank::from_models(&[failing()[1], SOUND, failing()[0], KernelModel { model_id: 9, ..SOUND }]);
@@ -121,6 +140,8 @@ fn a_lent_list() {
     assert_eq!(read.collect::<Option<Vec<_>>>().unwrap(), POLICY.explain(&bank, STRICT).unwrap().candidates);
     let places = [0, 1, 2, 3, 4, u64::MAX].map(|from| next_eligible(filled, from).unwrap());
     assert_eq!(places, [Some(1), Some(1), Some(3), Some(3), None, None]);
+    let whole = next_eligible(&filled[..4 * EXPLANATION_BYTES - 1], 2).unwrap();
+    assert_eq!(whole, None, "a part of an entry at the end is not looked at");
 }
 
 #[test]

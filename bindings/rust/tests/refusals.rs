@@ -1,10 +1,10 @@
 //! Each refusal through the safe calls, with its values, and that a refused call leaves what it was lent.
 mod common;
 use common::{example_bank, many, FIRST, POLICY, REQUEST, SECOND, UNIT_INPUT};
-use volankizo::layout::EXPLANATION_BYTES;
+use volankizo::layout::{EXPLANATION_BYTES, NEXT_BYTES, REQUEST_FORM_BYTES};
 use volankizo::{
-    check_request, decision_margin, find, models, read_request, read_stored, read_stored_into, record_at, unit_text,
-    what_would_win, write_request, write_stored, Bank, KernelInput, KernelModel, PolicySnapshot, Refusal,
+    check_request, decision_margin, ffi, find, models, read_request, read_stored, read_stored_into, record_at,
+    unit_text, what_would_win, write_request, write_stored, Bank, KernelInput, KernelModel, PolicySnapshot, Refusal,
 };
 
 fn two(first: KernelModel, second: KernelModel) -> Bank {
@@ -176,7 +176,9 @@ fn numbers_20_to_22_of_forms() {
         changed
     };
     let one_more = [&form[..], &[0]].concat();
-    let faults: [(&[u8], Refusal); 9] = [
+    let faults: [(&[u8], Refusal); 11] = [
+        (&[1, 31, 0, 9], Refusal::WrongLength),
+        (&[9, 30, 0, 0], Refusal::WrongTag),
         (&[], Refusal::WrongTag),
         (&[1], Refusal::CutShort),
         (&[9, 0, 0], Refusal::WrongTag),
@@ -197,8 +199,38 @@ fn numbers_20_to_22_of_forms() {
     assert_eq!(read_request(&request[..72]), Err(Refusal::CutShort));
     assert_eq!(read_request(&form), Err(Refusal::WrongTag));
     assert_eq!(read_request(&[3, 69, 0]), Err(Refusal::WrongLength));
+    assert_eq!(read_request(&[3, 71, 0]), Err(Refusal::WrongLength));
+    assert_eq!(read_request(&[2, 70]), Err(Refusal::CutShort));
+    assert_eq!(read_request(&[2, 71, 0]), Err(Refusal::WrongTag));
     let all = [Refusal::CutShort, Refusal::WrongTag, Refusal::WrongLength];
     assert_eq!(all.map(Refusal::number), [20, 21, 22]);
+}
+
+/// What the safe calls never ask: a buffer that is too short, a request of another length.
+#[test]
+fn words_of_the_calls_on_bytes() {
+    assert_eq!(ffi::next_eligible(&[], 0, &mut [0; NEXT_BYTES - 1]), 4);
+    assert_eq!(ffi::next_eligible(&[], 0, &mut [0; NEXT_BYTES]), 0);
+    let request = REQUEST.to_bytes();
+    assert_eq!(ffi::write_request(&request[1..], &mut []), 22);
+    assert_eq!(ffi::write_request(&request, &mut [0; REQUEST_FORM_BYTES - 1]), 4);
+    assert_eq!(ffi::write_request(&request, &mut [0; REQUEST_FORM_BYTES]), 0);
+}
+
+#[test]
+fn a_word_that_tells_nothing() {
+    for number in 0..=255 {
+        let known = matches!(number, 1..=8 | 10..=18 | 20..=22);
+        match Refusal::read(number) {
+            Some(Ok(())) => assert_eq!(number, 0),
+            Some(Err(refusal)) => assert!(known && u64::from(refusal.number()) == number),
+            None => assert!(number != 0 && !known),
+        }
+    }
+    let (field, model_id, value) = (8, u32::MAX, 65_534);
+    let word = 14 + (8 << 8) + (65_534 << 16) + (u64::from(model_id) << 32);
+    assert_eq!(Refusal::read(word), Some(Err(Refusal::ModelOutOfRange { field, model_id, value })));
+    assert_eq!(Refusal::read(u64::MAX), None);
 }
 
 #[test]

@@ -11,6 +11,7 @@ use lib.Dec.{eqb, ltb}
 use lib.ListN.{length, getD, drop}
 use lib.Seq.{drop-cons, drop-length}
 use Rattle.rules.specs.Choice.{below, equal, pick}
+use Rattle.rules.proofs.Orders.{lt-or-le}
 use Rattle.rules.proofs.Choices.{below-yes, below-no, equal-yes, equal-no}
 use Rattle.rules.specs.Text.{text}
 use Rattle.ask.specs.Question.{numberAfter, idOrUnclear, aboutOf, inWords, sameText, questionOf}
@@ -27,13 +28,6 @@ pub no-digit : (n b : ℕ) (bs : List ℕ) → (b < 48) ⊎ (57 < b) → numberA
 unfolding numberAfter
 no-digit n b bs (inl h) = below-yes _ _ _ _ h
 no-digit n b bs (inr h) = below-no _ _ _ _ (omega arith) ∙ below-yes _ _ _ _ h
-
-lt-or-le : (a b : ℕ) → (a < b) ⊎ (b ≤ a)
-lt-or-le a b = go (ltb a b) refl
-  where
-    go : (t : Bool) → ltb a b ≡ t → (a < b) ⊎ (b ≤ a)
-    go true e = inl (ltb-true a b e)
-    go false e = inr (ltb-false a b e)
 
 -- TOO HIGH stays too high, whatever follows
 pub over : (n : ℕ) (bs : List ℕ) → 4294967295 < n → idOrUnclear (numberAfter n bs) ≡ Unclear

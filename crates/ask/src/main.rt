@@ -5,7 +5,7 @@ mod question;
 ghost use Prim.Native.Nat.{_≤_};
 ghost use lib.ListN.{length};
 ghost use Rattle.io.specs.Counts.{Counts};
-ghost use Rattle.printed.specs.Sizes.{inputBytes};
+ghost use Rattle.printed.specs.Sizes.{readBytes};
 use libc::STDERR_FILENO;
 use libc::STDIN_FILENO;
 use libc::STDOUT_FILENO;
@@ -15,7 +15,7 @@ use question::Question;
 
 // Standard input, as far as an answer depends on it.
 fn read_input(buffer: &mut [u8]) -> usize
-    requires { ⌜ inputBytes ≤ length (now buffer) ⌝ }
+    requires { ⌜ readBytes ≤ length (now buffer) ⌝ }
     ensures { λ r. ⌜ Counts r (now (buffer .exit)) ⌝ }
 {
     io::read_full(STDIN_FILENO, buffer)

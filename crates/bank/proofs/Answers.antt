@@ -1,14 +1,23 @@
--- ANY TWO PERMITTED ANSWERS ARE EQUAL, of `reading` and of `record_at`. Assumes nothing.
+-- ANY TWO PERMITTED ANSWERS ARE EQUAL, for each call that a user makes. Assumes nothing.
 use Prim.Native.Nat.{ℕ}
 use mathlib.Core.List.{List}
-use mathlib.Core.Path.{_≡_, sym, _∙_}
+use Rattle.rules.specs.Records.{modelOf, inputOf, policyOf}
 use Rattle.rules.specs.Refused.{toldOutcome}
 use Rattle.rules.specs.Listing.{readingOf, recordOf}
-use Rattle.rules.specs.declared.refusal.Outcome.{Outcome}
-use Rattle.rules.proofs.Told.{one-outcome}
+use Rattle.rules.proofs.Told.{Same, one-itself, one-outcome}
 
-pub one-reading : (bank : List ℕ) (place : ℕ) (r s : Outcome) → toldOutcome r ≡ readingOf bank place → toldOutcome s ≡ readingOf bank place → r ≡ s
-one-reading bank place = one-outcome (readingOf bank place)
+pub one-reading : (bank : List ℕ) (place : ℕ) → Same toldOutcome (readingOf bank place)
+one-reading bank place = one-outcome _
 
-pub one-record : (bank : List ℕ) (place : ℕ) (r s : List ℕ) → r ≡ recordOf bank place → s ≡ recordOf bank place → r ≡ s
-one-record bank place r s p q = p ∙ sym q
+pub one-record : (bank : List ℕ) (place : ℕ) → Same (λ r. r) (recordOf bank place)
+one-record bank place = one-itself _
+
+module _ (bytes : List ℕ) where
+  pub one-model : Same (λ r. r) (modelOf bytes)
+  one-model = one-itself _
+
+  pub one-input : Same (λ r. r) (inputOf bytes)
+  one-input = one-itself _
+
+  pub one-policy : Same (λ r. r) (policyOf bytes)
+  one-policy = one-itself _

@@ -19,6 +19,12 @@ use rules::Refusal;
 use rules::limits::MAX_CATALOG_MODELS;
 use rules::limits::RECORD_BYTES;
 
+pub mod whole;
+
+pub use whole::input_from;
+pub use whole::model_from;
+pub use whole::policy_from;
+
 // The model that a record's bytes say.
 pub fn model_of(s: &[u8]) -> KernelModel
     requires { ⌜ recordBytes ≤ length (now s) ⌝ }

@@ -11,7 +11,7 @@ use Rattle.rules.specs.Refused.{fault, toldRefusal, toldOutcome, refused, answe
 use Rattle.rules.specs.Numbers.{Decision, isRejection, Boundary, toldBoundaries}
 use Rattle.rules.specs.Listing.{firstListed}
 use Rattle.rules.specs.Decide.{stoppedBy, decisionOf}
-use Rattle.rules.specs.Levers.{Question, selects, noSearch, boundaryOf, boundaryRefused}
+use Rattle.rules.specs.Levers.{Question, selects, noSearch, boundaryOf, boundaryRefused, boundaryUnless}
 use Rattle.rules.specs.Win.{winSearch, winFor, winIfListed, winIn, whatWouldWinOf}
 use Rattle.rules.specs.Margin.{marginFor, marginIfListed, marginIn, decisionMarginOf}
 use Rattle.rules.specs.declared.records.KernelInput.{KernelInput}
@@ -50,17 +50,17 @@ told-refused {o} {x} r h e =
 -- ---- the calls, once their tests have passed
 
 module _ (policy request bank : List ℕ) (room : ℕ) {p : PolicySnapshot} {q : KernelInput} (ep : p ≡ policyOf policy) (eq : q ≡ inputOf request) (e : openingFaults policy request bank boundarySize room ≡ []) where
-  pub win-passed : (id : ℕ) (r : Boundaries) → toldBoundaries r ≡ whatWouldWinOf p q bank id → toldBounds r ≡ unless (winFaults policy request bank id room) (answered (winOf policy request bank id))
+  pub win-passed : (id : ℕ) (r : Boundaries) → toldBoundaries r ≡ whatWouldWinOf p q bank id → (toldBounds r ≡ unless (winFaults policy request bank id room) (answered (winOf policy request bank id))) × (toldBoundaries r ≡ boundaryUnless (openingFaults policy request bank boundarySize room) (winOf policy request bank id))
   unfolding whatWouldWinOf
   win-passed id r h =
       let is : toldBoundaries r ≡ winOf policy request bank id = h ∙ rw (ep, eq, opening-bank policy request bank boundarySize room e) in
-      rw e (told-own r is)
+      (rw e (told-own r is), rw e is)
 
-  pub margin-passed : (r : Boundaries) → toldBoundaries r ≡ decisionMarginOf p q bank → toldBounds r ≡ unless (marginFaults policy request bank room) (answered (marginOf policy request bank))
+  pub margin-passed : (r : Boundaries) → toldBoundaries r ≡ decisionMarginOf p q bank → (toldBounds r ≡ unless (marginFaults policy request bank room) (answered (marginOf policy request bank))) × (toldBoundaries r ≡ boundaryUnless (openingFaults policy request bank boundarySize room) (marginOf policy request bank))
   unfolding decisionMarginOf
   margin-passed r h =
       let is : toldBoundaries r ≡ marginOf policy request bank = h ∙ rw (ep, eq, opening-bank policy request bank boundarySize room e) in
-      rw e (told-own r is)
+      (rw e (told-own r is), rw e is)
 
 -- ---- no place
 

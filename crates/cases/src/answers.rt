@@ -24,6 +24,7 @@ pub(crate) const ROOM: usize = 900;
 // Stands for three rooms: more than enough, one byte less than enough, none.
 pub(crate) const EACH_ROOM: usize = 901;
 
+// An answer as one number: the size written, or beyond every size its refusal.
 fn told(answer: Written) -> usize {
     match answer {
         Written::Bytes(n) => n,
@@ -31,6 +32,7 @@ fn told(answer: Written) -> usize {
     }
 }
 
+// What a call prints of an input, asked about an id where it asks about one.
 fn print(call: u8, input: &[u8], id: u32, out: &mut [u8]) -> usize {
     if call == UNIT {
         return told(unit_text(input, out));
@@ -48,6 +50,7 @@ fn print_into(call: u8, input: &[u8], id: u32, out: &mut [u8], room: usize) -> u
     print(call, input, id, &mut out[0..room])
 }
 
+// Whether a call prints a text into so much room; where that is too little, that it refuses and writes nothing.
 fn answers_in(call: u8, input: &[u8], id: u32, text: &[u8], room: usize) -> bool
     requires { ⌜ room ≤ 900 ⌝ }
 {

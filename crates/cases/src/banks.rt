@@ -26,6 +26,7 @@ fn put_changed(out: &mut [u8], at: usize, input: [u8; 203], start: usize, end: u
     at + (end - start)
 }
 
+// The same of the example as it is.
 pub(crate) fn put_part(out: &mut [u8], at: usize, start: usize, end: usize) -> usize
     requires { ⌜ (start ≤ end) × (end ≤ 203) × (at + (end - start) ≤ length (now out)) ⌝ }
     ensures { λ r. ⌜ r ≡ at + (end - start) ⌝ }
@@ -71,6 +72,7 @@ fn put_mixed(out: &mut [u8], at: usize, which: usize, other: usize)
     put_another(out, at, id, is_second as u8);
 }
 
+// The model at a place of a bank of so many.
 fn put_one(out: &mut [u8], models: Models, n: usize, place: usize)
     requires { ⌜ (place < n) × (n ≤ 1400) × (36 + 47 * n ≤ length (now out)) ⌝ }
 {
@@ -83,6 +85,7 @@ fn put_one(out: &mut [u8], models: Models, n: usize, place: usize)
     }
 }
 
+// All of them, one after the other.
 fn put_models(out: &mut [u8], models: Models, n: usize)
     requires { ⌜ (n ≤ 1400) × (36 + 47 * n ≤ length (now out)) ⌝ }
 {
@@ -131,6 +134,7 @@ pub(crate) const LENGTHS: usize = 36;
 
 const FIRST_LENGTH: usize = 65_500;
 
+// One of those, by its number.
 pub(crate) fn length_of(number: usize) -> usize
     ensures { λ r. ⌜ r ≤ 65535 ⌝ }
 {

@@ -22,10 +22,12 @@ use stored::write_stored;
 // A policy or a request that isn't the example's.
 const ANOTHER: usize = 2_000_000;
 
+// A refusal as one number, beyond every size.
 fn refused(refusal: Refusal) -> usize {
     REFUSED + refusal.number() as usize
 }
 
+// What a writer answers, as one number.
 fn written(answer: Written) -> usize {
     match answer {
         Written::Bytes(n) => n,

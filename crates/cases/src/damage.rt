@@ -120,6 +120,7 @@ fn header(out: &mut [u8], start: usize, whole: usize, number: usize) -> Case
     }
 }
 
+// How many bytes come after the whole input: few, whole fields, a second input, and up to beyond what is read.
 fn tail_size(which: usize) -> usize
     ensures { λ r. ⌜ r ≤ 65797 ⌝ }
 {

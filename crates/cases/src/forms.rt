@@ -26,6 +26,7 @@ const GROUPS: u64 = 9;
 // The groups of what is printed come before these.
 const PRINTED: u64 = 10;
 
+// How many numbers a group has.
 fn size_of(group: u64) -> usize {
     match group {
         1..=4 => numbers_of(group) * 2,
@@ -37,6 +38,7 @@ fn size_of(group: u64) -> usize {
     }
 }
 
+// Groups 1 to 4.
 fn damage(kind: u64, number: usize) -> Seen {
     if number % 2 == 0 {
         return damaged_stored(kind, number / 2);
@@ -44,6 +46,7 @@ fn damage(kind: u64, number: usize) -> Seen {
     damaged_request(kind, number / 2)
 }
 
+// What a number of a group comes to.
 fn case_of(group: u64, number: usize) -> Seen {
     match group {
         1..=4 => damage(group, number),
@@ -55,6 +58,7 @@ fn case_of(group: u64, number: usize) -> Seen {
     }
 }
 
+// A tally with all numbers of a group; its name counts on from the groups of what is printed.
 fn with_group(tally: Tally, group: u64) -> Tally {
     let numbers = size_of(group);
     let name = wrapping_add_u64(PRINTED, group);

@@ -30,6 +30,7 @@ const GROUPS: u64 = 10;
 // More rooms than the longest of the example's texts has bytes.
 const ROOMS: usize = 180;
 
+// Groups 1 to 4: the example damaged, through each call.
 fn damage(kind: u64, number: usize) -> Seen {
     let call = (number % CALLS) as u8;
     let mut input = [0u8; SPACE];
@@ -47,6 +48,7 @@ fn room(number: usize) -> Seen {
     judged(is_example(call, &input, 1, number / CALLS % ROOMS))
 }
 
+// How many numbers a group has.
 fn size_of(group: u64) -> usize {
     match group {
         1..=4 => numbers_of(group) * CALLS,
@@ -59,6 +61,7 @@ fn size_of(group: u64) -> usize {
     }
 }
 
+// What a number of a group comes to.
 fn case_of(group: u64, number: usize) -> Seen {
     match group {
         1..=4 => damage(group, number),
@@ -71,6 +74,7 @@ fn case_of(group: u64, number: usize) -> Seen {
     }
 }
 
+// A tally with all numbers of a group.
 fn with_group(tally: Tally, group: u64) -> Tally {
     let numbers = size_of(group);
     let mut now = tally;
@@ -82,6 +86,7 @@ fn with_group(tally: Tally, group: u64) -> Tally {
     now
 }
 
+// The tally of all that is printed.
 pub(crate) fn every() -> Tally {
     let mut tally = nothing();
     let mut group = 1;

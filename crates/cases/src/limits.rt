@@ -29,6 +29,7 @@ fn place_of(which: usize) -> usize
     }
 }
 
+// The new value.
 fn value_of(which: usize) -> u16 {
     match which {
         2..=3 => 63,
@@ -90,6 +91,7 @@ fn multiplied(call: u8, input: &[u8]) -> bool {
     )
 }
 
+// Whether a call says what is owed.
 fn is_told(which: usize, call: u8, input: &[u8]) -> bool {
     match which {
         0..=5 => is_example(call, input, 1, EACH_ROOM),
@@ -99,6 +101,7 @@ fn is_told(which: usize, call: u8, input: &[u8]) -> bool {
     }
 }
 
+// The example with one number changed, through one call.
 pub(crate) fn limit(number: usize) -> Seen {
     let call = (number % CALLS) as u8;
     let which = number / CALLS;

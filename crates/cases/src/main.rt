@@ -20,6 +20,7 @@ mod tally;
 mod texts;
 mod writing;
 
+// Every case, what is printed first.
 fn main() {
     tally::tell(forms::every_form(groups::every()));
 }

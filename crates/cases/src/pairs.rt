@@ -34,6 +34,7 @@ fn is_pair(a: usize, b: usize) -> bool {
     true
 }
 
+// How many models an input with two faults has.
 fn count_for(a: usize, b: usize) -> usize
     ensures { λ r. ⌜ r ≤ 901 ⌝ }
 {
@@ -46,6 +47,7 @@ fn count_for(a: usize, b: usize) -> usize
     2
 }
 
+// Which models those are.
 fn models_for(a: usize, b: usize) -> Models {
     if a == ALL_OFF || b == ALL_OFF {
         Models::Off
@@ -93,6 +95,7 @@ fn put_pair(out: &mut [u8], a: usize, b: usize) -> usize
     end_of_pair(a, b, request)
 }
 
+// Two faults through one call; two of the same are one alone.
 pub(crate) fn pair(number: usize) -> Seen {
     let call = (number % CALLS) as u8;
     let rest = number / CALLS;

@@ -2,6 +2,7 @@
 use rules::KernelInput;
 use rules::PolicySnapshot;
 
+// Its policy.
 pub(crate) fn policy() -> PolicySnapshot {
     PolicySnapshot {
         policy_epoch: 7,
@@ -13,6 +14,7 @@ pub(crate) fn policy() -> PolicySnapshot {
     }
 }
 
+// Its request.
 pub(crate) fn request() -> KernelInput {
     KernelInput {
         request_sequence: 42,

@@ -1,6 +1,5 @@
 // What is read: whether a reader answers a form as it must, with a number, or with the example's numbers where that is 0.
 ghost use Prim.Native.Nat.{_≤_};
-ghost use lib.ListN.{length};
 use crate::banks::SPACE;
 use crate::banks::length_answer;
 use crate::banks::length_of;
@@ -40,6 +39,7 @@ fn reads_stored(form: &[u8], number: u8) -> bool {
     reads_in(form, number, 0)
 }
 
+// Reads a request form, which needs no room.
 fn reads_request(form: &[u8], number: u8) -> bool {
     let told = request_read(form);
     if number == 0 {

@@ -77,6 +77,7 @@ fn with_many_alike(call: u8, input: &[u8]) -> bool {
     )
 }
 
+// Which models a bank of group 7 has.
 fn models_of(which: usize) -> Models {
     match which {
         1 => Models::Last,
@@ -85,6 +86,7 @@ fn models_of(which: usize) -> Models {
     }
 }
 
+// How many.
 fn count_of(which: usize) -> usize
     ensures { λ r. ⌜ r ≤ 1394 ⌝ }
 {
@@ -96,6 +98,7 @@ fn count_of(which: usize) -> usize
     }
 }
 
+// Whether a call says what is owed.
 fn is_told(which: usize, call: u8, input: &[u8]) -> bool {
     match which {
         0 => with_many_after(call, input),

@@ -12,6 +12,7 @@ pub(crate) const SENTENCES: usize = 10;
 // Model 2's quality: at 7,500 its utility is 5,700, and at 6,999 it is 5,199, where model 1's is 5,200.
 const SECOND_QUALITY: usize = 89;
 
+// What it is changed to.
 fn second_quality(which: usize) -> u16 {
     match which {
         0 => 7_500,
@@ -36,6 +37,7 @@ fn place_of(which: usize) -> usize
     }
 }
 
+// What stands there then.
 fn value_of(which: usize) -> u16 {
     match which {
         1 => 900,
@@ -114,6 +116,7 @@ fn is_said(which: usize, input: &[u8]) -> bool {
     }
 }
 
+// One such sentence.
 pub(crate) fn sentence(which: usize) -> Seen {
     let mut input = example();
     put16(&mut input, SECOND_QUALITY, second_quality(which));

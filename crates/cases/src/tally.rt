@@ -18,6 +18,7 @@ pub(crate) struct Tally {
     pub number: u64,
 }
 
+// Before the first case.
 pub(crate) fn nothing() -> Tally {
     Tally {
         cases: 0,
@@ -27,6 +28,7 @@ pub(crate) fn nothing() -> Tally {
     }
 }
 
+// A case that was asked.
 pub(crate) fn judged(same: bool) -> Seen {
     if same { Seen::Same } else { Seen::Differs }
 }
@@ -42,6 +44,7 @@ fn differing(tally: Tally, group: u64, number: u64) -> Tally {
     now
 }
 
+// A tally with one number more; a number that stands for no case is not counted.
 pub(crate) fn noted(tally: Tally, group: u64, number: u64, what: Seen) -> Tally {
     let mut now = tally;
     now.cases = wrapping_add_u64(now.cases, 1);
@@ -52,6 +55,7 @@ pub(crate) fn noted(tally: Tally, group: u64, number: u64, what: Seen) -> Tally 
     }
 }
 
+// Where to look first.
 fn tell_first(tally: Tally) {
     io::write_all(STDOUT_FILENO, b"the first, by group and number: ");
     io::print_decimal(STDOUT_FILENO, tally.group);
@@ -60,6 +64,7 @@ fn tell_first(tally: Tally) {
     io::write_all(STDOUT_FILENO, b"\n");
 }
 
+// Prints what the cases come to.
 pub(crate) fn tell(tally: Tally) {
     io::print_decimal(STDOUT_FILENO, tally.cases);
     io::write_all(STDOUT_FILENO, b" cases, ");

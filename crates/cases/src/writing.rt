@@ -51,6 +51,7 @@ pub(crate) const SIZES: usize = 14;
 
 pub(crate) const SIZE_ROOMS: usize = 4;
 
+// That length in bytes: around none, one and two models, 900, and the most that a field may have.
 fn size_of(which: usize) -> usize
     ensures { λ r. ⌜ r ≤ 65612 ⌝ }
 {

@@ -13,12 +13,11 @@ use Rattle.rules.specs.declared.refusal.Outcome.{Outcome}
 use Rattle.rules.specs.declared.refusal.Outcome.the-variants.{Answered, Refused}
 use Rattle.rules.specs.declared.records.PolicySnapshot.{PolicySnapshot}
 use Rattle.outset.specs.Refuse.{leading, toldLeading}
-use Rattle.outset.proofs.Refusals.{leading-told, none-told}
+use Rattle.outset.proofs.Refusals.{append-refused, leading-told, none-told}
 use Rattle.sorting.specs.Keyed.{Ascending, ofKey}
 use Rattle.sorting.specs.Bytes.{recordsOf}
 use Rattle.sorting.proofs.Ordered.{same-length, same-records, ids-ascending, equal-ids-in-old-order, order-again}
 use Rattle.rules.proofs.Faults.{none-first, whole-length}
-use Rattle.catalogue.proofs.Stages.{stopped, stops}
 
 -- what is tested before the ordering passes only banks of whole records
 early-whole : (bank : List ℕ) → earlyFaults bank ≡ [] → length bank % recordBytes ≡ 0
@@ -39,7 +38,7 @@ module _ (bank : List ℕ) (early : Outcome) (told : toldLeading early ≡ leadi
   unfolding trustOf trustBank
   refused-early {r} p e =
       let all = earlyFaults bank ++ catalogFaults p (listedOf (orderedOf bank)) in
-      (leading-told (Refused r) all (stopped all e (stops (earlyFaults bank) _ e told)), kept (earlyFaults bank) e told)
+      (leading-told (Refused r) all (append-refused (earlyFaults bank) _ e told), kept (earlyFaults bank) e told)
 
   module _ (e : early ≡ Answered) where
     none-early : earlyFaults bank ≡ []

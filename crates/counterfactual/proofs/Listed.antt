@@ -14,7 +14,6 @@ use Rattle.rules.specs.declared.records.PolicySnapshot.{PolicySnapshot}
 use Rattle.rules.specs.declared.refusal.Refusal.{Refusal}
 use Rattle.rules.specs.declared.refusal.Outcome.{Outcome}
 use Rattle.rules.specs.declared.refusal.Outcome.the-variants as outcome
-use Rattle.rules.specs.declared.decision.Found.the-variants.{Refused}
 use Rattle.outset.proofs.Refusals.{none-told}
 use Rattle.outset.specs.Refuse.{leading, toldLeading}
 use Rattle.searches.specs.Asked.{askedOf, Stands}

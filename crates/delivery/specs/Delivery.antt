@@ -44,7 +44,7 @@ writeRequestFaults request room =
 abbrev pub storedSize : ℕ
 storedSize = policyBytes + wordSize
 
--- 20, 21, 22 of the form, then 4: of the bank's buffer, which has so much room, or of the other one
+-- 20 to 22 of the form, then 4: of the bank's buffer, which has so much room, or of the other one
 abbrev pub readStoredFaults : List ℕ → ℕ → ℕ → Faults
 readStoredFaults form bank room = readFaults form bank ++ roomFaults storedSize room
 
@@ -58,7 +58,7 @@ roomlessFaults form = formFaults (1 ∷ 2 ∷ []) form ++ (fault 4 ∷ [])
 
 -- ---- `volankizo_read_request`
 
--- 20, 21, 22, 4
+-- 20 to 22, then 4
 abbrev pub readRequestFaults : List ℕ → ℕ → Faults
 readRequestFaults form room = formFaults (3 ∷ []) form ++ roomFaults requestBytes room
 

@@ -56,7 +56,7 @@ fn roomless(form: &[u8]) -> u64
 }
 
 // A stored form taken apart: the models' bytes in `bank`, the policy and the length of the bank in `out`. Where either is too short neither
-// is written. Refused: 20, 21, 22 at each field in its turn, then 4.
+// is written. Refused: 20 to 22 at each field in its turn, then 4.
 pub fn stored_delivered(form: &[u8], bank: &mut [u8], out: &mut [u8]) -> u64
     ensures word { λ r. ⌜ r ≡ wordOf (firstFault (readStoredFaults (now (form .entry)) (length (now (bank .entry))) (length (now (out .entry))))) ⌝ }
     ensures models { λ r. ⌜ now (bank .exit) ≡ listUnless (readStoredFaults (now (form .entry)) (length (now (bank .entry))) (length (now (out .entry)))) (storedBank (now (form .entry))) (now (bank .entry)) ⌝ }
@@ -90,7 +90,7 @@ pub fn request_form_delivered(request: &[u8], out: &mut [u8]) -> u64
     }
 }
 
-// The request that a request form holds. Refused: 20, 21, 22, 4.
+// The request that a request form holds. Refused: 20 to 22, then 4.
 pub fn request_delivered(form: &[u8], out: &mut [u8]) -> u64
     ensures word { λ r. ⌜ r ≡ wordOf (firstFault (readRequestFaults (now (form .entry)) (length (now (out .entry))))) ⌝ }
     ensures bytes { λ r. ⌜ now (out .exit) ≡ listUnless (readRequestFaults (now (form .entry)) (length (now (out .entry)))) (requestIn (now (form .entry))) (now (out .entry)) ⌝ }

@@ -27,7 +27,7 @@ use Rattle.rules.specs.declared.records.PolicySnapshot.{PolicySnapshot}
 use Rattle.rules.proofs.Example.{bank, policy, request, lever, noLever, boundary}
 use Rattle.rules.proofs.Table.{choice}
 use Rattle.demands.specs.Standing.{UniqueIds}
-use Rattle.demands.specs.Demand3.{question, qualityEntry, latencyEntry, priceEntry, ceilingEntry, ofLever, entriesOf, Unselected, SwitchedOn, winPasses, marginPasses, WinExact, MarginExact}
+use Rattle.demands.specs.Demand3.{question, qualityEntry, latencyEntry, priceEntry, ceilingEntry, ofLever, entriesFor, Unselected, SwitchedOn, winPasses, marginPasses, WinExact, MarginExact}
 use Rattle.demands.proofs.Winning.{answered-win, what-would-win-exact}
 use Rattle.demands.proofs.Margins.{decision-margin-exact}
 use Rattle.demands.proofs.Passes.{win-passes, keep-passes}
@@ -88,9 +88,9 @@ cost-there : decisionAt one 3 443333 .cost ≡ 798
 unfolding below atLeast equal lower higher number modelOf inputOf policyOf listedOf gateOf billed costOf scaledPrice shareOf qualityTermOf riskTermOf latencyTermOf exactUtilityOf utilityOf pricedOf verdictOf better ranking stoppedBy executedAs chosen decidedOf decisionOf leverAt varied decisionAt
 cost-there = refl
 
-price-given : entriesOf 3 (whatWouldWinOf p q bank 1) ≡ priceEntry one 443333 ∷ []
+price-given : entriesFor 3 (whatWouldWinOf p q bank 1) ≡ priceEntry one 443333 ∷ []
 unfolding ofLever equal
-price-given = rw cost-there (ap (entriesOf 3) row-B)
+price-given = rw cost-there (ap (entriesFor 3) row-B)
 
 -- Of all price scales to 1,000,000, model 1 is selected at those to 443,333 and at no other
 one-by-price : (v : ℕ) → v ≤ 1000000 → (wins one 3 v ≡ true) ↔ (v ≤ 443333)
@@ -99,16 +99,16 @@ one-by-price v h = exact-B .price .exact 443333 price-given .exactly v ((omega a
 -- and at no quality from 9,000 to 10,000: equal utility at higher cost loses
 one-not-by-quality : (v : ℕ) → 9000 ≤ v → v ≤ 10000 → wins one 1 v ≡ false
 unfolding ofLever equal modelOf number
-one-not-by-quality v h k = exact-B .quality .missing .0 (ap (entriesOf 1) row-B) v (h, k)
+one-not-by-quality v h k = exact-B .quality .missing .0 (ap (entriesFor 1) row-B) v (h, k)
 
 -- at no latency to 100 ms, and at no ceiling from 8,000 to 10,000
 one-not-by-latency : (v : ℕ) → v ≤ 100 → wins one 2 v ≡ false
 unfolding ofLever equal modelOf number
-one-not-by-latency v h = exact-B .latency .missing .0 (ap (entriesOf 2) row-B) v ((omega arith), h)
+one-not-by-latency v h = exact-B .latency .missing .0 (ap (entriesFor 2) row-B) v ((omega arith), h)
 
 one-not-by-ceiling : (v : ℕ) → 8000 ≤ v → v ≤ 10000 → wins one 4 v ≡ false
 unfolding ofLever equal modelOf number
-one-not-by-ceiling v h k = exact-B .ceiling .missing .0 (ap (entriesOf 4) row-B) v (h, k)
+one-not-by-ceiling v h k = exact-B .ceiling .missing .0 (ap (entriesFor 4) row-B) v (h, k)
 
 -- the 26 passes are the halvings' own
 passes-B : winPasses one ≡ 26
@@ -143,25 +143,25 @@ exact-C =
     subst (λ id. MarginExact (decisionMarginOf p q bank) (question p q ls id (modelAt bank 1))) chosen-is-two
     (subst (λ l. MarginExact (decisionMarginOf p q bank) (question p q ls (decisionOf p q ls .model) (l .model))) same (c .exact))
 
-quality-given : entriesOf 1 (decisionMarginOf p q bank) ≡ qualityEntry two 7000 ∷ []
+quality-given : entriesFor 1 (decisionMarginOf p q bank) ≡ qualityEntry two 7000 ∷ []
 unfolding ofLever equal modelOf number
-quality-given = ap (entriesOf 1) row-C
+quality-given = ap (entriesFor 1) row-C
 
-latency-given : entriesOf 2 (decisionMarginOf p q bank) ≡ latencyEntry two 150 ∷ []
+latency-given : entriesFor 2 (decisionMarginOf p q bank) ≡ latencyEntry two 150 ∷ []
 unfolding ofLever equal modelOf number
-latency-given = ap (entriesOf 2) row-C
+latency-given = ap (entriesFor 2) row-C
 
-ceiling-given : entriesOf 4 (decisionMarginOf p q bank) ≡ ceilingEntry two 1000 ∷ []
+ceiling-given : entriesFor 4 (decisionMarginOf p q bank) ≡ ceilingEntry two 1000 ∷ []
 unfolding ofLever equal modelOf number
-ceiling-given = ap (entriesOf 4) row-C
+ceiling-given = ap (entriesFor 4) row-C
 
 scaled-cost : decisionAt two 3 4330000 .cost ≡ 1299
 unfolding below atLeast equal lower higher number modelOf inputOf policyOf listedOf gateOf billed costOf scaledPrice shareOf qualityTermOf riskTermOf latencyTermOf exactUtilityOf utilityOf pricedOf verdictOf better ranking stoppedBy executedAs chosen decidedOf decisionOf leverAt varied decisionAt
 scaled-cost = refl
 
-scale-given : entriesOf 3 (decisionMarginOf p q bank) ≡ priceEntry two 4330000 ∷ []
+scale-given : entriesFor 3 (decisionMarginOf p q bank) ≡ priceEntry two 4330000 ∷ []
 unfolding ofLever equal
-scale-given = rw scaled-cost (ap (entriesOf 3) row-C)
+scale-given = rw scaled-cost (ap (entriesFor 3) row-C)
 
 -- Model 2 stays chosen at the qualities from 7,000 to 8,000 and at no lower one
 two-by-quality : (v : ℕ) → v ≤ 8000 → (wins two 1 v ≡ true) ↔ (7000 ≤ v)

@@ -19,12 +19,13 @@ use Rattle.rules.specs.declared.boundary.Bound.{Bound}
 use Rattle.rules.specs.declared.boundary.Bound.the-variants.{At, Nothing}
 use Rattle.demands.specs.Lists.{Each}
 use Rattle.demands.specs.Exact.{Range, TurnsOnce, BoundaryAt, SearchExact, FarEndExact}
-use Rattle.demands.specs.Demand3.{qualityEntry, latencyEntry, priceEntry, ceilingEntry, used, ofLever, entriesOf, WinLever, MarginQuality, MarginLever}
+use Rattle.rules.specs.Printed.{entriesOf}
+use Rattle.demands.specs.Demand3.{qualityEntry, latencyEntry, priceEntry, ceilingEntry, ofLever, entriesFor, WinLever, MarginQuality, MarginLever}
 use Rattle.demands.proofs.Exact.{at-itself, search-exact, margin-exact}
 
 -- ---- the rooms in use are what was sought
 
-pub used-sought : (id : ℕ) (d : Decision) (blocked : Bool) (s : Sought) → used (boundaryOf id d blocked s) ≡ s .entries
+pub used-sought : (id : ℕ) (d : Decision) (blocked : Bool) (s : Sought) → entriesOf (boundaryOf id d blocked s) ≡ s .entries
 unfolding boundaryOf
 used-sought id d blocked s = take-append-seam (s .entries) (replicate (4 - length (s .entries)) noEntry)
 
@@ -110,13 +111,13 @@ sought-found a one two three four = λ i.
 
 -- so an answer's entries are, lever by lever, what its four searches found
 pub record Answers (answer : Boundary) (a : Question) (one two three four : Bound) : Type 0 where
-  pub quality : entriesOf 1 answer ≡ found (qualityEntry a) one
-  pub latency : entriesOf 2 answer ≡ found (latencyEntry a) two
-  pub price : entriesOf 3 answer ≡ found (priceEntry a) three
-  pub ceiling : entriesOf 4 answer ≡ found (ceilingEntry a) four
-  pub whole : used answer ≡ entriesOf 1 answer ++ (entriesOf 2 answer ++ (entriesOf 3 answer ++ entriesOf 4 answer))
+  pub quality : entriesFor 1 answer ≡ found (qualityEntry a) one
+  pub latency : entriesFor 2 answer ≡ found (latencyEntry a) two
+  pub price : entriesFor 3 answer ≡ found (priceEntry a) three
+  pub ceiling : entriesFor 4 answer ≡ found (ceilingEntry a) four
+  pub whole : entriesOf answer ≡ entriesFor 1 answer ++ (entriesFor 2 answer ++ (entriesFor 3 answer ++ entriesFor 4 answer))
 
-pub answers : (answer : Boundary) (a : Question) (one two three four : Bound) → used answer ≡ andThen (plain 1 (a .model .«quality_bps») one) (andThen (plain 2 (a .model .«p95_latency_ms») two) (andThen (priced a three) (plain 4 (a .model .«risk_ceiling_bps») four))) .entries → Answers answer a one two three four
+pub answers : (answer : Boundary) (a : Question) (one two three four : Bound) → entriesOf answer ≡ andThen (plain 1 (a .model .«quality_bps») one) (andThen (plain 2 (a .model .«p95_latency_ms») two) (andThen (priced a three) (plain 4 (a .model .«risk_ceiling_bps») four))) .entries → Answers answer a one two three four
 answers answer a one two three four e =
     let f = four-found a one two three four in
     let s = e ∙ sought-found a one two three four in

@@ -8,6 +8,7 @@ use borrow.Author.Tests.{lt-ltb, le-ltb, lt-leb, leb-false}
 use lib.Dec.{ltb}
 use lib.IntN.{ℤ, pos, negsuc, subℕ, _-ℤ_}
 use lib.Signed.{ltZ, leZ}
+use Rattle.rules.proofs.Integers.{sub-is}
 use Rattle.rules.specs.Choice.{higher, lower}
 use Rattle.rules.specs.Utility.{held}
 
@@ -37,19 +38,15 @@ below-difference k n b h = go (decLt n b)
     go (no s) = rw (le-ltb n b (omega arith)) tt
 
 -- what is left, by the sign
-from-pos : (n a : ℕ) → pos n -ℤ pos a ≡ subℕ n a
-from-pos n zero = rw (le-ltb n 0 (omega arith)) (ap pos (omega arith))
-from-pos n (suc a) = refl
-
 from-negsuc : (n a : ℕ) → negsuc n -ℤ pos a ≡ negsuc (n + a)
 from-negsuc n zero = rw (lt-ltb 0 (suc n) (omega arith)) (ap negsuc (omega arith))
 from-negsuc n (suc a) = ap negsuc (omega arith)
 
 -- Where x is at most y, and no more is taken from y, x less what is taken is at most y less what is taken
 pub less-taken : (x y : ℤ) (a b : ℕ) → AtMost x y → b ≤ a → AtMost (x -ℤ pos a) (y -ℤ pos b)
-less-taken (pos m) (pos n) a b h k = rw (from-pos m a, from-pos n b) (difference-up m n a b h k)
+less-taken (pos m) (pos n) a b h k = rw (sub-is m a, sub-is n b) (difference-up m n a b h k)
 less-taken (pos m) (negsuc n) a b h k = absurd h
-less-taken (negsuc m) (pos n) a b h k = rw (from-negsuc m a, from-pos n b) (below-difference (m + a) n b (omega arith))
+less-taken (negsuc m) (pos n) a b h k = rw (from-negsuc m a, sub-is n b) (below-difference (m + a) n b (omega arith))
 less-taken (negsuc m) (negsuc n) a b h k = rw (from-negsuc m a, from-negsuc n b) (omega arith)
 
 -- Holding within i64 keeps the order

@@ -29,7 +29,8 @@ use Rattle.rules.specs.Validate.{policyFaults, emptyFaults, repeatFaults, provi
 use Rattle.rules.specs.declared.records.KernelInput.{KernelInput}
 use Rattle.rules.specs.declared.records.PolicySnapshot.{PolicySnapshot}
 use Rattle.rules.proofs.Example.{bank, modelOne, modelTwo, policy, request, with}
-use Rattle.demands.specs.Demand3.{question, priceEntry, enabledEntry, ofLever, entriesOf, used, AreBytes, Sound, Unselected, OffExact, WinExact, MarginExact}
+use Rattle.rules.specs.Printed.{entriesOf}
+use Rattle.demands.specs.Demand3.{question, priceEntry, enabledEntry, ofLever, entriesFor, AreBytes, Sound, Unselected, OffExact, WinExact, MarginExact}
 use Rattle.demands.proofs.Selected.{rejection-selects-none}
 use Rattle.demands.proofs.Winning.{what-would-win-exact}
 use Rattle.demands.proofs.Unsearched.{stopped-empty, selected-empty, off-passes, switched-off-exact}
@@ -122,11 +123,11 @@ dear-off : OffExact (whatWouldWinOf p q dear 1) (off dear)
 unfolding below atLeast equal lower higher number modelOf inputOf policyOf listedOf gateOf billed costOf scaledPrice shareOf qualityTermOf riskTermOf latencyTermOf exactUtilityOf utilityOf pricedOf verdictOf better ranking stoppedBy executedAs chosen decidedOf decisionOf lengthFaults firstListed selects
 dear-off = switched-off-exact p q dear 1 (listed 0 (modelAt dear 0)) refl (record { listed = refl; goesOn = refl; notSelected = refl }) refl
 
-enabled-listed : used (whatWouldWinOf p q free 1) ≡ enabledEntry ∷ []
+enabled-listed : entriesOf (whatWouldWinOf p q free 1) ≡ enabledEntry ∷ []
 unfolding below atLeast equal lower higher number modelOf inputOf policyOf listedOf gateOf billed costOf scaledPrice shareOf qualityTermOf riskTermOf latencyTermOf exactUtilityOf utilityOf pricedOf verdictOf better ranking stoppedBy executedAs chosen decidedOf decisionOf leverAt varied selects decisionAt wins
 enabled-listed = free-off .given .1 refl
 
-nothing-listed : used (whatWouldWinOf p q dear 1) ≡ []
+nothing-listed : entriesOf (whatWouldWinOf p q dear 1) ≡ []
 unfolding below atLeast equal lower higher number modelOf inputOf policyOf listedOf gateOf billed costOf scaledPrice shareOf qualityTermOf riskTermOf latencyTermOf exactUtilityOf utilityOf pricedOf verdictOf better ranking stoppedBy executedAs chosen decidedOf decisionOf leverAt varied selects decisionAt wins
 nothing-listed = dear-off .missing .1 refl
 
@@ -135,11 +136,11 @@ nothing-listed = dear-off .missing .1 refl
 abbrev risky : KernelInput
 risky = inputOf (with 36 (40 ∷ 35 ∷ []) request)
 
-stopped : (used (winIn p risky (listedOf bank) 1) ≡ []) × (winIn p risky (listedOf bank) 1 .passes ≡ 1)
+stopped : (entriesOf (winIn p risky (listedOf bank) 1) ≡ []) × (winIn p risky (listedOf bank) 1 .passes ≡ 1)
 unfolding stoppedBy atLeast below equal number modelOf inputOf policyOf listedOf firstListed
 stopped = stopped-empty p risky (listedOf bank) 1 (listed 0 (modelAt bank 0)) refl (omega arith)
 
-selected : (used (winIn p q (listedOf bank) 2) ≡ []) × (winIn p q (listedOf bank) 2 .passes ≡ 1)
+selected : (entriesOf (winIn p q (listedOf bank) 2) ≡ []) × (winIn p q (listedOf bank) 2 .passes ≡ 1)
 unfolding below atLeast equal lower higher number modelOf inputOf policyOf listedOf gateOf billed costOf scaledPrice shareOf qualityTermOf riskTermOf latencyTermOf exactUtilityOf utilityOf pricedOf verdictOf better ranking stoppedBy executedAs chosen decidedOf decisionOf firstListed selects
 selected = selected-empty p q (listedOf bank) 2 (listed 1 (modelAt bank 1)) refl refl
 
@@ -168,7 +169,7 @@ zero-exact =
     (record { listed = refl; goesOn = refl; notSelected = zero-not-selected })
     (λ e. omega arith)
 
-zero-given : entriesOf 3 (whatWouldWinOf p broke nameless 0) ≡ priceEntry zeroth 0 ∷ []
+zero-given : entriesFor 3 (whatWouldWinOf p broke nameless 0) ≡ priceEntry zeroth 0 ∷ []
 unfolding below atLeast equal lower higher number modelOf inputOf policyOf listedOf gateOf billed costOf scaledPrice shareOf qualityTermOf riskTermOf latencyTermOf exactUtilityOf utilityOf pricedOf verdictOf better ranking stoppedBy executedAs chosen decidedOf decisionOf lengthFaults firstListed halveIn searchOf leverAt selects varied decisionAt wins boundaryOf winLevers winSearch winFor winIn whatWouldWinOf rejection ofLever
 zero-given = refl
 
@@ -184,7 +185,7 @@ slowest : MarginExact (marginIn patient q alone) (question patient q alone (deci
 unfolding below atLeast equal lower higher number modelOf inputOf policyOf listedOf gateOf billed costOf scaledPrice shareOf qualityTermOf riskTermOf latencyTermOf exactUtilityOf utilityOf pricedOf verdictOf better ranking stoppedBy executedAs chosen decidedOf decisionOf firstListed
 slowest = keep-exact patient q alone refl (listed 0 (modelAt modelTwo 0)) refl (tt, tt)
 
-no-latency : entriesOf 2 (marginIn patient q alone) ≡ []
+no-latency : entriesFor 2 (marginIn patient q alone) ≡ []
 unfolding below atLeast equal lower higher number modelOf inputOf policyOf listedOf gateOf billed costOf scaledPrice shareOf qualityTermOf riskTermOf latencyTermOf exactUtilityOf utilityOf pricedOf verdictOf better ranking stoppedBy executedAs chosen decidedOf decisionOf firstListed halveIn searchOf searchAfterFarEnd leverAt selects varied decisionAt wins boundaryOf marginLevers marginFor marginIn rejection ofLever
 no-latency = refl
 

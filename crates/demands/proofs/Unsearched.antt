@@ -17,7 +17,8 @@ use Rattle.rules.specs.Levers.{Question, selects, decisionAt, wins, boundaryOf}
 use Rattle.rules.specs.Win.{ifOn, winSearch, winFor, winIn, whatWouldWinOf}
 use Rattle.rules.specs.declared.records.KernelInput.{KernelInput}
 use Rattle.rules.specs.declared.records.PolicySnapshot.{PolicySnapshot}
-use Rattle.demands.specs.Demand3.{question, used, Unselected, OffExact}
+use Rattle.rules.specs.Printed.{entriesOf}
+use Rattle.demands.specs.Demand3.{question, Unselected, OffExact}
 use Rattle.demands.proofs.Selected.{rejection-selects-none, selects-chose, stopped-rejects, selected-chosen}
 use Rattle.demands.proofs.Winning.{answered-win, searched, used-searched, no-refusal}
 
@@ -42,17 +43,17 @@ stopped-at-setting a lever v h = rejected-at-setting a lever v (stopped-rejects 
 
 module _ (p : PolicySnapshot) (q : KernelInput) (ls : List Listed) (id : ℕ) (l : Listed) (first : firstListed id ls ≡ some l) where
   -- Demand 3. Stopped by a request limit: no entry, one pass
-  pub stopped-empty : 0 < stoppedBy p q → (used (winIn p q ls id) ≡ []) × (winIn p q ls id .passes ≡ 1)
+  pub stopped-empty : 0 < stoppedBy p q → (entriesOf (winIn p q ls id) ≡ []) × (winIn p q ls id .passes ≡ 1)
   unfolding winIn winFor boundaryOf
   stopped-empty h = rw (first, ne-eqb (stoppedBy p q) 0 (λ e. omega arith)) (refl, refl)
 
   -- Demand 3. Selected already: no entry, one pass
-  pub selected-empty : selects id (decisionOf p q ls) ≡ true → (used (winIn p q ls id) ≡ []) × (winIn p q ls id .passes ≡ 1)
+  pub selected-empty : selects id (decisionOf p q ls) ≡ true → (entriesOf (winIn p q ls id) ≡ []) × (winIn p q ls id .passes ≡ 1)
   unfolding winIn winFor boundaryOf
   selected-empty e = let z = selected-chosen p q ls id e .0 in rw (first, z, e) (refl, refl)
 
 module _ (p : PolicySnapshot) (q : KernelInput) (ls : List Listed) (id : ℕ) (l : Listed) (u : Unselected p q ls id l) (off : l .model .enabled ≡ 0) where
-  off-used : used (winIn p q ls id) ≡ ifOn (wins (question p q ls id (l .model)) 5 1) .entries
+  off-used : entriesOf (winIn p q ls id) ≡ ifOn (wins (question p q ls id (l .model)) 5 1) .entries
   unfolding winSearch
   off-used = used-searched p q ls id l u ∙ rw off
 
@@ -60,7 +61,7 @@ module _ (p : PolicySnapshot) (q : KernelInput) (ls : List Listed) (id : ℕ) (l
   pub off-exact : OffExact (winIn p q ls id) (question p q ls id (l .model))
   off-exact = go (wins (question p q ls id (l .model)) 5 1) refl off-used
     where
-      go : (t : Bool) → wins (question p q ls id (l .model)) 5 1 ≡ t → used (winIn p q ls id) ≡ ifOn t .entries → OffExact (winIn p q ls id) (question p q ls id (l .model))
+      go : (t : Bool) → wins (question p q ls id (l .model)) 5 1 ≡ t → entriesOf (winIn p q ls id) ≡ ifOn t .entries → OffExact (winIn p q ls id) (question p q ls id (l .model))
       go true w k =
           record {
             answered = no-refusal p q ls id l u;

@@ -14,7 +14,8 @@ use Rattle.rules.specs.Win.{winLevers, winSearch, winFor, winIn, whatWouldWinOf
 use Rattle.rules.specs.declared.records.KernelInput.{KernelInput}
 use Rattle.rules.specs.declared.records.PolicySnapshot.{PolicySnapshot}
 use Rattle.demands.specs.Standing.{UniqueIds}
-use Rattle.demands.specs.Demand3.{winQuality, winLatency, winPrice, winCeiling, question, used, Unselected, SwitchedOn, WinExact}
+use Rattle.rules.specs.Printed.{entriesOf}
+use Rattle.demands.specs.Demand3.{winQuality, winLatency, winPrice, winCeiling, question, Unselected, SwitchedOn, WinExact}
 use Rattle.demands.proofs.Favours.{quality-ordered, latency-ordered, price-ordered, ceiling-ordered}
 use Rattle.demands.proofs.Varied.{turns-once}
 use Rattle.demands.proofs.Entries.{used-sought, not-refused, Answers, answers, won}
@@ -30,8 +31,8 @@ module _ (p : PolicySnapshot) (q : KernelInput) (ls : List Listed) (id : ℕ) (l
   unfolding winIn winFor
   searched = rw (u .listed, u .goesOn, u .notSelected)
 
-  pub used-searched : used (winIn p q ls id) ≡ winSearch (question p q ls id (l .model)) .entries
-  used-searched = ap used searched ∙ used-sought id (decisionOf p q ls) false (winSearch (question p q ls id (l .model)))
+  pub used-searched : entriesOf (winIn p q ls id) ≡ winSearch (question p q ls id (l .model)) .entries
+  used-searched = ap entriesOf searched ∙ used-sought id (decisionOf p q ls) false (winSearch (question p q ls id (l .model)))
 
   pub no-refusal : winIn p q ls id .refusal ≡ noFault
   no-refusal = rw searched (not-refused id (decisionOf p q ls) false (winSearch (question p q ls id (l .model))))

@@ -5,7 +5,6 @@ use mathlib.Core.Bool.{Bool, true, false}
 use mathlib.Core.List.{List, [], _∷_, _++_}
 use mathlib.Core.Logic.{_↔_}
 use mathlib.Core.Option.{none, some}
-use lib.ListN.{take}
 use Rattle.rules.specs.Choice.{equal}
 use Rattle.rules.specs.Records.{Listed, listedOf}
 use Rattle.rules.specs.Refused.{noFault, bankFaults}
@@ -13,6 +12,7 @@ use Rattle.rules.specs.Numbers.{Entry, Boundary}
 use Rattle.rules.specs.Decide.{stoppedBy, decisionOf}
 use Rattle.rules.specs.Listing.{firstListed}
 use Rattle.rules.specs.Halving.{Side, Lowest, Highest, searchOf, searchAfterFarEnd, passesOf}
+use Rattle.rules.specs.Printed.{entriesOf}
 use Rattle.rules.specs.Levers.{Question, selects, decisionAt, wins, entry}
 use Rattle.rules.specs.declared.boundary.Bound.{Bound}
 use Rattle.rules.specs.declared.boundary.Bound.the-variants.{At, Nothing}
@@ -73,16 +73,13 @@ ceilingEntry a b = entry 4 (a .model .«risk_ceiling_bps») b none
 abbrev pub enabledEntry : Entry
 enabledEntry = entry 5 0 1 none
 
--- The rooms in use of an answer, and those of one lever
-abbrev pub used : Boundary → List Entry
-used answer = take (answer .count) (answer .levers)
-
+-- An answer's entries of one lever
 unfoldable pub ofLever : ℕ → List Entry → List Entry
 ofLever lever [] = []
 ofLever lever (e ∷ es) = equal (e .lever) lever (e ∷ ofLever lever es) (ofLever lever es)
 
-abbrev pub entriesOf : ℕ → Boundary → List Entry
-entriesOf lever answer = ofLever lever (used answer)
+abbrev pub entriesFor : ℕ → Boundary → List Entry
+entriesFor lever answer = ofLever lever (entriesOf answer)
 
 -- A lever's entries are the one with some boundary
 abbrev pub HasBoundary : List Entry → (ℕ → Entry) → Type 0
@@ -110,17 +107,17 @@ pub record WinLever (es : List Entry) (entryAt : ℕ → Entry) (side : Side) (s
 -- The answer: no refusal, its four levers, and no other entry
 pub record WinExact (answer : Boundary) (a : Question) : Type 0 where
   pub answered : answer .refusal ≡ noFault
-  pub quality : WinLever (entriesOf 1 answer) (qualityEntry a) Lowest (wins a 1) (winQuality (a .model))
-  pub latency : WinLever (entriesOf 2 answer) (latencyEntry a) Highest (wins a 2) (winLatency (a .model))
-  pub price : WinLever (entriesOf 3 answer) (priceEntry a) Highest (wins a 3) winPrice
-  pub ceiling : WinLever (entriesOf 4 answer) (ceilingEntry a) Lowest (wins a 4) (winCeiling (a .model))
-  pub whole : used answer ≡ entriesOf 1 answer ++ (entriesOf 2 answer ++ (entriesOf 3 answer ++ entriesOf 4 answer))
+  pub quality : WinLever (entriesFor 1 answer) (qualityEntry a) Lowest (wins a 1) (winQuality (a .model))
+  pub latency : WinLever (entriesFor 2 answer) (latencyEntry a) Highest (wins a 2) (winLatency (a .model))
+  pub price : WinLever (entriesFor 3 answer) (priceEntry a) Highest (wins a 3) winPrice
+  pub ceiling : WinLever (entriesFor 4 answer) (ceilingEntry a) Lowest (wins a 4) (winCeiling (a .model))
+  pub whole : entriesOf answer ≡ entriesFor 1 answer ++ (entriesFor 2 answer ++ (entriesFor 3 answer ++ entriesFor 4 answer))
 
 -- The answer for a model that is off: enabled is listed exactly if switching it on selects the id, and nothing is listed exactly if not
 pub record OffExact (answer : Boundary) (a : Question) : Type 0 where
   pub answered : answer .refusal ≡ noFault
-  pub given : (used answer ≡ enabledEntry ∷ []) ↔ (wins a 5 1 ≡ true)
-  pub missing : (used answer ≡ []) ↔ (wins a 5 1 ≡ false)
+  pub given : (entriesOf answer ≡ enabledEntry ∷ []) ↔ (wins a 5 1 ≡ true)
+  pub missing : (entriesOf answer ≡ []) ↔ (wins a 5 1 ≡ false)
 
 -- ---- second half: the margin
 
@@ -139,11 +136,11 @@ pub record MarginLever (es : List Entry) (entryAt : ℕ → Entry) (side : Side)
 -- The answer: no refusal, its four levers, and no other entry
 pub record MarginExact (answer : Boundary) (a : Question) : Type 0 where
   pub answered : answer .refusal ≡ noFault
-  pub quality : MarginQuality (entriesOf 1 answer) (qualityEntry a) (wins a 1) (marginQuality (a .model))
-  pub latency : MarginLever (entriesOf 2 answer) (latencyEntry a) Highest (wins a 2) (marginLatency (a .model))
-  pub price : MarginLever (entriesOf 3 answer) (priceEntry a) Highest (wins a 3) marginPrice
-  pub ceiling : MarginLever (entriesOf 4 answer) (ceilingEntry a) Lowest (wins a 4) (marginCeiling (a .model))
-  pub whole : used answer ≡ entriesOf 1 answer ++ (entriesOf 2 answer ++ (entriesOf 3 answer ++ entriesOf 4 answer))
+  pub quality : MarginQuality (entriesFor 1 answer) (qualityEntry a) (wins a 1) (marginQuality (a .model))
+  pub latency : MarginLever (entriesFor 2 answer) (latencyEntry a) Highest (wins a 2) (marginLatency (a .model))
+  pub price : MarginLever (entriesFor 3 answer) (priceEntry a) Highest (wins a 3) marginPrice
+  pub ceiling : MarginLever (entriesFor 4 answer) (ceilingEntry a) Lowest (wins a 4) (marginCeiling (a .model))
+  pub whole : entriesOf answer ≡ entriesFor 1 answer ++ (entriesFor 2 answer ++ (entriesFor 3 answer ++ entriesFor 4 answer))
 
 -- The record that a margin varies is the chosen one: the first listed with the chosen id, at the chosen place; and over it the answer is exact
 pub record MarginOfChoice (p : PolicySnapshot) (q : KernelInput) (ls : List Listed) (answer : Boundary) : Type 0 where

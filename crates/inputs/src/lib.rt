@@ -1,6 +1,5 @@
 // What the programs' input says, and what refuses it. The bank is the very part of the input in which it stands.
 ghost use mathlib.Core.Path.{_≡_};
-ghost use mathlib.Core.List.{[]};
 ghost use Rattle.rules.specs.Printed.{programPolicy, programBank, programRequest, programFaults};
 ghost use Rattle.outset.specs.Refuse.{leading, toldLeading};
 ghost use Rattle.inputs.specs.Formed.{Formed, formedFaults, firstRefused};

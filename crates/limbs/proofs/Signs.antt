@@ -1,18 +1,12 @@
 -- Numbers with a sign: the difference of two, by their order. Assumes nothing.
-use mathlib.Core.Path.{_≡_, refl, sym, ap, _∙_}
-use Prim.Native.Nat.{ℕ, zero, suc, zero-le, _-_, _≤_, _<_}
+use mathlib.Core.Path.{_≡_, sym, ap, _∙_}
+use Prim.Native.Nat.{ℕ, suc, _-_, _≤_, _<_}
 use native.Mathlib.Omega.{arith}
-use borrow.Author.Tests.{lt-ltb, le-ltb}
-use lib.IntN.{pos, negℤ, subℕ, _-ℤ_}
+use lib.IntN.{pos, negℤ, _-ℤ_}
+use Rattle.rules.proofs.Integers.{sub-is, sub-above, sub-below}
 
--- ---- a difference
+pub less-above : (a b n : ℕ) → b ≤ a → n ≡ a - b → pos n ≡ pos a -ℤ pos b
+less-above a b n h e = ap pos e ∙ sym (sub-above a b h) ∙ sym (sub-is a b)
 
-sub-is : (a b : ℕ) → subℕ a b ≡ pos a -ℤ pos b
-sub-is a zero = simp (le-ltb a 0 zero-le) (ap pos (omega arith))
-sub-is a (suc b) = refl
-
-pub sub-above : (a b n : ℕ) → b ≤ a → n ≡ a - b → pos n ≡ pos a -ℤ pos b
-sub-above a b n h e = ap pos e ∙ sym (simp (le-ltb a b h)) ∙ sub-is a b
-
-pub sub-below : (a b n : ℕ) → a < b → n ≡ b - a → negℤ (pos n) ≡ pos a -ℤ pos b
-sub-below a b n h e = ap (λ k. negℤ (pos k)) {x = n} {y = suc (b - suc a)} (omega arith) ∙ sym (simp (lt-ltb a b h)) ∙ sub-is a b
+pub less-below : (a b n : ℕ) → a < b → n ≡ b - a → negℤ (pos n) ≡ pos a -ℤ pos b
+less-below a b n h e = ap (λ k. negℤ (pos k)) {x = n} {y = suc (b - suc a)} (omega arith) ∙ sym (sub-below a b h) ∙ sym (sub-is a b)

@@ -2,3 +2,4 @@
 pub mod Layouts
 pub mod Packing
 pub mod Trips
+pub mod Answers

@@ -9,16 +9,12 @@ use endian::put64;
 use rules::KernelInput;
 use rules::KernelModel;
 use rules::PolicySnapshot;
+use rules::limits::ModelBytes;
 use rules::limits::POLICY_BYTES;
+use rules::limits::PolicyBytes;
 use rules::limits::RECORD_BYTES;
 use rules::limits::REQUEST_BYTES;
-
-// A model's bytes, a request's and a policy's.
-pub type ModelBytes = [u8; RECORD_BYTES];
-
-pub type RequestBytes = [u8; REQUEST_BYTES];
-
-pub type PolicyBytes = [u8; POLICY_BYTES];
+use rules::limits::RequestBytes;
 
 // The bytes that say a model.
 pub fn model_bytes(m: KernelModel) -> ModelBytes

@@ -1,7 +1,7 @@
 -- Scores and the integers that they stand for. Assumes nothing.
 use mathlib.Core.Path.{_≡_, refl, sym, ap, ap₂, _∙_}
 use mathlib.Core.Bool.{Bool, true, false}
-use Prim.Native.Nat.{ℕ, zero, suc, zero-le, _+_, _-_, _^_, _≤_, _<_}
+use Prim.Native.Nat.{ℕ, suc, _+_, _-_, _^_, _≤_, _<_}
 use native.Mathlib.Nat.{le-of-suc-le-suc, lt-of-not-le}
 use native.Mathlib.Decide.{decLt}
 use native.Mathlib.Omega.{arith}
@@ -13,6 +13,7 @@ use mir.Syntax.{w64}
 use mir.Val.{toZ}
 use mir.Facts.{toZ-pos, toZ-neg}
 use Rattle.limbs.proofs.Limbs.{decides}
+use Rattle.rules.proofs.Integers.{sub-is, sub-above, sub-below}
 use Rattle.rules.specs.Limits.{maxU64, maxI64}
 use Rattle.rules.specs.Utility.{held, orZero}
 use Rattle.rules.specs.Wide.{val, valZ, signed}
@@ -21,14 +22,6 @@ use Rattle.pricing.specs.Score.{unscored, scored, scoreOf}
 
 le-of : {a b : ℕ} → ¬ (a < b) → b ≤ a
 le-of n = le-of-suc-le-suc (lt-of-not-le n)
-
--- ---- a difference, by the order of the two numbers
-
-sub-below : (a b : ℕ) → a < b → subℕ a b ≡ negsuc (b - suc a)
-sub-below a b h = simp (lt-ltb a b h)
-
-sub-above : (a b : ℕ) → b ≤ a → subℕ a b ≡ pos (a - b)
-sub-above a b h = simp (le-ltb a b h)
 
 -- a score below that of 0 stands for a negative number, and else for none
 pub unscored-below : (s : ℕ) → s < 2 ^ 63 → unscored s ≡ negsuc (2 ^ 63 - suc s)
@@ -93,10 +86,6 @@ pub score-positive : (s : ℕ) → leZ (unscored s) (pos 0) ≡ leb s (2 ^ 63)
 score-positive s = positive s (decLt (2 ^ 63) s)
 
 -- ---- differences of several numbers
-
-sub-is : (a b : ℕ) → pos a -ℤ pos b ≡ subℕ a b
-sub-is a zero = ap pos (omega arith) ∙ sym (sub-above a 0 zero-le)
-sub-is a (suc b) = refl
 
 -- two numbers taken away are their sum taken away
 sub-sum : (a : ℤ) (b c : ℕ) → a -ℤ pos b -ℤ pos c ≡ a -ℤ pos (b + c)

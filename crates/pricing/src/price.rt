@@ -70,36 +70,36 @@ pub fn cost(model: KernelModel, input: KernelInput) -> u64
 {
     let tokens = input.input_tokens;
     let price = model.input_cost_microunits_per_million_tokens;
-    let more = input.output_tokens;
-    let dear = model.output_cost_microunits_per_million_tokens;
-    let limit = price_limit(tokens, more);
+    let output_tokens = input.output_tokens;
+    let output_price = model.output_cost_microunits_per_million_tokens;
+    let limit = price_limit(tokens, output_tokens);
     if price < limit {
-        if dear < limit {
+        if output_price < limit {
             let a = billed_small(tokens, price);
-            let b = billed_small(more, dear);
+            let b = billed_small(output_tokens, output_price);
             return a + b;
         }
     }
-    cost_wide(tokens, price, more, dear)
+    cost_wide(tokens, price, output_tokens, output_price)
 }
 
 // The same for callers outside a scan's loop: `cost` has one caller, so that it is compiled into that loop.
 pub fn cost_apart(model: KernelModel, input: KernelInput) -> u64
     ensures { λ r. ⌜ r ≡ costOf model input ⌝ }
 {
-    let there = input.input_tokens;
-    let cheap = model.input_cost_microunits_per_million_tokens;
-    let back = input.output_tokens;
-    let high = model.output_cost_microunits_per_million_tokens;
-    let limit = price_limit(there, back);
-    if cheap < limit {
-        if high < limit {
-            let a = billed_small(there, cheap);
-            let b = billed_small(back, high);
+    let tokens = input.input_tokens;
+    let price = model.input_cost_microunits_per_million_tokens;
+    let output_tokens = input.output_tokens;
+    let output_price = model.output_cost_microunits_per_million_tokens;
+    let limit = price_limit(tokens, output_tokens);
+    if price < limit {
+        if output_price < limit {
+            let a = billed_small(tokens, price);
+            let b = billed_small(output_tokens, output_price);
             return a + b;
         }
     }
-    cost_wide(there, cheap, back, high)
+    cost_wide(tokens, price, output_tokens, output_price)
 }
 
 // A scaled price by two limbs.

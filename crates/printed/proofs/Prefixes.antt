@@ -1,4 +1,4 @@
--- THE ANSWER DEPENDS ONLY ON THE FIRST 65,628 BYTES OF THE INPUT: one more than the longest input that passes, so that an input that is
+-- THE ANSWER DEPENDS ONLY ON THE FIRST 65,628 BYTES OF THE INPUT: one more than the longest input whose form passes, so that an input that is
 -- longer is refused by what stands in these. Assumes nothing.
 use Prim.Native.Nat.{ℕ, zero, suc, _+_, _-_, _≤_, _<_}
 use native.Mathlib.Decide.{decLt}

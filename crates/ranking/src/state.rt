@@ -1,6 +1,5 @@
 // What a scan holds between two records: the nine counts, the first two of the ranking, and how many are eligible.
 ghost use mathlib.Core.Path.{_≡_};
-ghost use mathlib.Core.List.{[]};
 ghost use Rattle.rules.specs.Count.{noCounts};
 ghost use Rattle.ranking.specs.State.{nobody, startOf};
 use rules::RejectionHistogram;

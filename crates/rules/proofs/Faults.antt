@@ -7,7 +7,7 @@ use native.Mathlib.Omega.{arith}
 use borrow.Author.Tests.{eqb-true, ltb-false}
 use lib.Dec.{eqb, ltb}
 use Rattle.rules.specs.Choice.{below, equal}
-use Rattle.rules.specs.Refused.{Fault, Faults, fault, lengthFaults, roomFaults}
+use Rattle.rules.specs.Refused.{Fault, fault, lengthFaults, roomFaults}
 use Rattle.rules.proofs.Choices.{below-no}
 
 -- A fault is not none

@@ -1,5 +1,7 @@
 -- Rows and vectors of document 01, by computation, and the laws that code proofs cite.
 pub mod Choices
+pub mod Orders
+pub mod Integers
 pub mod Faults
 pub mod Told
 pub mod ToldStored

@@ -268,6 +268,10 @@ Same {A} told rule = (r s : A) → told r ≡ rule → told s ≡ rule → r ≡
 abbrev pub Determined : {A B : Type 0} → (A → B) → Type 0
 Determined {A} {B} told = (rule : B) → Same told rule
 
+-- where an answer itself is promised
+pub one-itself : {A : Type 0} → Determined (λ (a : A). a)
+one-itself rule r s p q = p ∙ sym q
+
 pub one-outcome : Determined toldOutcome
 one-outcome = one-answer toldOutcome outcomeFrom outcome-back
 

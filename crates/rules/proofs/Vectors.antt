@@ -1,5 +1,5 @@
 -- Rows beyond document 01's, for what those leave open: every field of every layout, each gate and what it measured, the order of the
--- counts and of the reasons, each key of the ranking, the clamps, the refusals, and the odd ways of the boundary calls. Assumes nothing.
+-- counts and of the reasons, each key of the ranking, the clamps and the refusals. Assumes nothing.
 use Prim.Native.Nat.{ℕ, zero, suc, _+_, _-_, _*_, _^_}
 use mathlib.Core.List.{List, [], _∷_, _++_, map}
 use mathlib.Core.Option.{none, some}

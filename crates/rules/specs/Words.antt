@@ -76,6 +76,9 @@ offWords id = sentence (text "Model " ++ decimal id ++ text " is switched off, a
 unfoldable pub noneWords : ℕ → List ℕ
 noneWords id = sentence (text "No single change would make model " ++ decimal id ++ text " the choice.")
 
+unfoldable pub nothingWords : ℕ → Bool → List ℕ
+nothingWords id off = pick off (λ _. offWords id) (λ _. noneWords id)
+
 abbrev pub isOff : Option Listed → Bool
 isOff none = false
 isOff (some l) = eqb (l .model .enabled) 0
@@ -89,7 +92,7 @@ wordsReport id off b =
     (λ _. chosenWords id)
     (λ _.
     pick (eqb (b .count) 0)
-    (λ _. pick off (λ _. offWords id) (λ _. noneWords id))
+    (λ _. nothingWords id off)
     (λ _. leversWords id (entriesOf b))))
 
 unfoldable pub askWords : ℕ → List ℕ → List ℕ

@@ -1,4 +1,6 @@
 // Sizes and limits. specs/Limits.antt states the same numbers for the rules.
+ghost use mathlib.Core.Path.{_≡_};
+ghost use Rattle.rules.specs.Limits.{allOnes, maxBps};
 
 // One basis point is a ten-thousandth.
 pub const BASIS_POINTS: u64 = 10_000;
@@ -25,6 +27,13 @@ pub const RECORD_BYTES: usize = 47;
 pub const REQUEST_BYTES: usize = 70;
 
 pub const POLICY_BYTES: usize = 30;
+// All of them, in arrays.
+pub type ModelBytes = [u8; RECORD_BYTES];
+
+pub type RequestBytes = [u8; REQUEST_BYTES];
+
+pub type PolicyBytes = [u8; POLICY_BYTES];
+
 // An explanation record's bytes.
 pub const EXPLANATION_BYTES: usize = 72;
 // The place that a rejection carries.
@@ -40,3 +49,22 @@ pub const STORED_REQUEST_BYTES: usize = 70;
 pub const MAX_STORED_MODELS: usize = 1_394;
 
 pub const MAX_PROGRAM_MODELS: usize = 900;
+
+// The three that callers use and no crate does are held to the rules' numbers here.
+fn basis_points() -> u64
+    ensures { λ r. ⌜ r ≡ maxBps ⌝ }
+{
+    BASIS_POINTS
+}
+
+fn all_providers() -> u64
+    ensures { λ r. ⌜ r ≡ allOnes ⌝ }
+{
+    ALL_PROVIDERS
+}
+
+fn all_regions() -> u64
+    ensures { λ r. ⌜ r ≡ allOnes ⌝ }
+{
+    ALL_REGIONS
+}

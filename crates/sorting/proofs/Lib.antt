@@ -1,5 +1,4 @@
 -- The laws of stable insertion over any key, of moving an element, and of a bank put in order.
-pub mod Orders
 pub mod Moves
 pub mod Inserting
 pub mod Stability

@@ -57,7 +57,7 @@ pub fn write_stored(policy: PolicySnapshot, bank: &[u8], out: &mut [u8]) -> Writ
 }
 
 // Reads a policy with its bank. The models' bytes go to the start of a buffer, whose other bytes stay; none is copied before the form's end
-// was seen. Refused: 20, 21, 22 at each field in its turn, then 4.
+// was seen. Refused: 20 to 22 at each field in its turn, then 4.
 pub fn read_stored(form: &[u8], buffer: &mut [u8]) -> StoredRead
     ensures { λ r. ⌜ (toldStored r ≡ readStoredOf (now (form .entry)) (length (now (buffer .entry)))) × (now (buffer .exit) ≡ readStoredBuffer (now (form .entry)) (now (buffer .entry))) ⌝ }
 {

@@ -71,8 +71,8 @@ pub fn front_field(form: &[u8], tag: u8) -> Field
     Field::Refused(Refusal::CutShort)
 }
 
-// Whether fields with these tags stand one after the other, then the end, and if not, why: 20, 21, 22 at each field in its turn, then 21
-// for any byte after the last one.
+// Whether fields with these tags stand one after the other, then the end, and if not, why: at each field in its turn 20 for a cut
+// header, 21, 22, and 20 for a cut body; then 21 for any byte after the last one.
 pub fn lay_out(form: &[u8], tags: &[u8]) -> Outcome
     ensures { λ r. ⌜ toldLeading r ≡ leading (formFaults (now (tags .entry)) (now (form .entry))) ⌝ }
 {

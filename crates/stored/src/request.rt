@@ -29,7 +29,7 @@ pub fn write_request(input: KernelInput, out: &mut [u8]) -> Written
     Written::Bytes(end)
 }
 
-// Reads a request. Refused: 20, 21, 22.
+// Reads a request. Refused: 20 to 22.
 pub fn read_request(form: &[u8]) -> RequestRead
     ensures { λ r. ⌜ toldRequest r ≡ readRequestOf (now (form .entry)) ⌝ }
 {

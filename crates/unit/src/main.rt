@@ -5,7 +5,7 @@ ghost use Prim.Native.Nat.{_≤_};
 ghost use lib.ListN.{length, take};
 ghost use Rattle.io.specs.Counts.{Counts};
 ghost use Rattle.rules.specs.Printed.{unitText};
-ghost use Rattle.printed.specs.Sizes.{inputBytes, unitBytes};
+ghost use Rattle.printed.specs.Sizes.{readBytes, unitBytes};
 use libc::STDIN_FILENO;
 use libc::STDOUT_FILENO;
 use printed::deliver::end_of;
@@ -14,7 +14,7 @@ use printed::sizes::UNIT_BYTES;
 
 // Standard input, as far as an answer depends on it.
 fn read_input(buffer: &mut [u8]) -> usize
-    requires { ⌜ inputBytes ≤ length (now buffer) ⌝ }
+    requires { ⌜ readBytes ≤ length (now buffer) ⌝ }
     ensures { λ r. ⌜ Counts r (now (buffer .exit)) ⌝ }
 {
     io::read_full(STDIN_FILENO, buffer)

@@ -37,7 +37,7 @@ pub extern "C" fn volankizo_write_stored(policy: &[u8], bank: &[u8], out: &mut [
     stored_form_delivered(policy, bank, out)
 }
 
-// A stored form taken apart. `form` is any bytes, `bank` has room for its models, `out` for 38. Refused, with neither written: 20, 21, 22 at
+// A stored form taken apart. `form` is any bytes, `bank` has room for its models, `out` for 38. Refused, with neither written: 20 to 22 at
 // each field in its turn, then 4 for `bank` or `out`. Written: `bank`, the models' bytes; `out`, by offset: 0 the policy, 30 bytes; 30 the
 // length of the bank in bytes u64.
 #[no_mangle]
@@ -59,7 +59,7 @@ pub extern "C" fn volankizo_write_request(request: &[u8], out: &mut [u8]) -> u64
     request_form_delivered(request, out)
 }
 
-// The request that a request form holds. `form` is any bytes, `out` has room for 70. Refused: 20, 21, 22, 4. Written: the request, 70 bytes.
+// The request that a request form holds. `form` is any bytes, `out` has room for 70. Refused: 20 to 22, then 4. Written: the request, 70 bytes.
 #[no_mangle]
 pub extern "C" fn volankizo_read_request(form: &[u8], out: &mut [u8]) -> u64
     ensures word { λ r. ⌜ r ≡ wordOf (firstFault (readRequestFaults (now (form .entry)) (length (now (out .entry))))) ⌝ }

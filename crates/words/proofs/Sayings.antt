@@ -11,10 +11,9 @@ use Rattle.rules.specs.Numbers.{Boundary}
 use Rattle.rules.specs.Listing.{firstListed, placeOf}
 use Rattle.rules.specs.Levers.{selects}
 use Rattle.rules.specs.Printed.{entriesOf}
-use Rattle.rules.specs.Words.{isOff, stoppedWords, chosenWords, leversWords, wordsReport}
+use Rattle.rules.specs.Words.{isOff, stoppedWords, chosenWords, nothingWords, leversWords, wordsReport}
 use Rattle.rules.specs.declared.records.KernelModel.{KernelModel}
 use Rattle.outset.proofs.Finding.{found-at, found-nothing}
-use Rattle.words.specs.Nothing.{nothingWords}
 
 pub off-nowhere : (id : ℕ) (bank : List ℕ) → placeOf (firstListed id (listedOf bank)) ≡ none → false ≡ isOff (firstListed id (listedOf bank))
 off-nowhere id bank e = rw (found-nothing bank id e)
@@ -38,7 +37,7 @@ module _ (id : ℕ) (off : Bool) (b : Boundary) where
     module _ (not-chosen : s ≡ false) where
       -- else no lever wins
       pub nothing-said : b .count ≡ 0 → nothingWords id off ≡ wordsReport id off b
-      unfolding wordsReport nothingWords
+      unfolding wordsReport
       nothing-said e = rw (free, sym told ∙ not-chosen, eq-eqb (b .count) 0 e)
 
       -- else each lever that does

@@ -62,16 +62,10 @@ fn wanted() -> Result<Wanted, String> {
         match name.as_str() {
             "--" => wanted.program = arguments.by_ref().collect(),
             "--short" => wanted.short = true,
-            _ => {
-                let number = arguments.next().ok_or(format!("{name} needs a number"))?;
-                let number = number.parse().map_err(|_| format!("{name} {number}: not a number"))?;
-                match name.as_str() {
-                    "--seed" => wanted.seed = number,
-                    "--count" => count = Some(number),
-                    "--from" => wanted.from = number,
-                    _ => return Err(format!("{name} is not known")),
-                }
-            }
+            "--seed" => wanted.seed = number(&name, arguments.next())?,
+            "--count" => count = Some(number(&name, arguments.next())?),
+            "--from" => wanted.from = number(&name, arguments.next())?,
+            _ => return Err(format!("{name} is not known")),
         }
     }
     wanted.count = count.unwrap_or(if wanted.short { SHORT } else { COUNT });
@@ -83,6 +77,12 @@ fn wanted() -> Result<Wanted, String> {
         return Err("--count 0 compares nothing".into());
     }
     Ok(wanted)
+}
+
+/// The number that stands after a name.
+fn number(name: &str, word: Option<String>) -> Result<u64, String> {
+    let word = word.filter(|word| word != "--").ok_or(format!("{name} needs a number"))?;
+    word.parse().map_err(|_| format!("{name} {word}: not a number"))
 }
 
 fn small_spaces(run: &mut Run, short: bool) -> Figures {

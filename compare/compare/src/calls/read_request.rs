@@ -19,7 +19,7 @@ fn need(_: &Ask) -> usize {
     REQUEST_BYTES
 }
 
-/// 20, 21, 22, then 4.
+/// The form's own (at a field 21 for no byte, 20, 21, 22, 20; then 21 for a byte after it), then 4.
 fn second(ask: &Ask) -> Passed {
     request_in(&ask.form)?;
     refusals::room(ask.room, REQUEST_BYTES)

@@ -6,7 +6,7 @@ use Prim.Native.Nat.{_<_, _≤_}
 use borrow.Author.Needs.{needs}
 use borrow.Author.Tests.{ltb-true, ltb-false}
 use Rattle.rules.specs.Wide.{val}
-use Rattle.limbs.proofs.Signs.{sub-above, sub-below}
+use Rattle.limbs.proofs.Signs.{less-above, less-below}
 use Rattle.limbs.proofs.difference.Statement.{statement}
 use Rattle.limbs.proofs.difference.Tie as tie
 
@@ -17,10 +17,10 @@ above : (c : tie.Else1) → val (c .before .before .args .b) ≤ val (c .before 
 above c = let e = sym (c .before .is-less .ensures) ∙ c .if1 .left in omega (arith, ltb-false)
 
 returns : tie.Need-returns
-returns c = let s = c .before .before .before .args in (sub-below (val (s .a)) (val (s .b)) _ (below (c .before)) (c .without .ensures), sym (c .before .if1 .taken) ∙ c .before .before .is-less .ensures)
+returns c = let s = c .before .before .before .args in (less-below (val (s .a)) (val (s .b)) _ (below (c .before)) (c .without .ensures), sym (c .before .if1 .taken) ∙ c .before .before .is-less .ensures)
 
 returns-2 : tie.Need-returns-2
-returns-2 c = let s = c .before .before .before .args in (sub-above (val (s .a)) (val (s .b)) _ (above (c .before)) (c .without2 .ensures), sym (c .before .if1 .left) ∙ c .before .before .is-less .ensures)
+returns-2 c = let s = c .before .before .before .args in (less-above (val (s .a)) (val (s .b)) _ (above (c .before)) (c .without2 .ensures), sym (c .before .if1 .left) ∙ c .before .before .is-less .ensures)
 
 pub difference-spec : {M : Type 1} → statement M
 difference-spec =

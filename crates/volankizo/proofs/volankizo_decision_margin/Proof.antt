@@ -18,7 +18,7 @@ use Rattle.volankizo.proofs.volankizo_decision_margin.Statement.{statem
 use Rattle.volankizo.proofs.volankizo_decision_margin.Tie as tie
 
 told : (c : tie.After-margin-within) → let a = c .before .before .before .before .before .args in Told (toldBounds (c .margin-within .result)) (marginFaults (now (a .policy)) (now (a .request)) (now (a .bank)) (length (now (a .out)))) (marginOf (now (a .policy)) (now (a .request)) (now (a .bank)))
-told c = record { is = c .margin-within .ensures }
+told c = record { is = c .margin-within .ensures .0 }
 
 -- what the answer's outcome tells of it
 tells : (c : tie.After-margin-within) {o : Outcome} → c .margin-within .result .outcome ≡ o → toldBounds (c .margin-within .result) ≡ ifAnswered o (toldBoundaries (c .margin-within .result))

@@ -18,7 +18,7 @@ use Rattle.volankizo.proofs.volankizo_what_would_win.Statement.{stateme
 use Rattle.volankizo.proofs.volankizo_what_would_win.Tie as tie
 
 told : (c : tie.After-win-within) → let a = c .before .before .before .before .before .args in Told (toldBounds (c .win-within .result)) (winFaults (now (a .policy)) (now (a .request)) (now (a .bank)) (a .id) (length (now (a .out)))) (winOf (now (a .policy)) (now (a .request)) (now (a .bank)) (a .id))
-told c = record { is = c .win-within .ensures }
+told c = record { is = c .win-within .ensures .0 }
 
 -- what the answer's outcome tells of it
 tells : (c : tie.After-win-within) {o : Outcome} → c .win-within .result .outcome ≡ o → toldBounds (c .win-within .result) ≡ ifAnswered o (toldBoundaries (c .win-within .result))

@@ -1,7 +1,6 @@
 -- `words::put_nothing` meets its contract. Assumes nothing.
 use Rattle.rules.specs.Text.{text}
-use Rattle.rules.specs.Words.{offWords, noneWords}
-use Rattle.words.specs.Nothing.{nothingWords}
+use Rattle.rules.specs.Words.{offWords, noneWords, nothingWords}
 use borrow.Author.Needs.{needs}
 use Rattle.words.proofs.put_nothing.Statement.{statement}
 use Rattle.words.proofs.put_nothing.Tie as tie

@@ -4,6 +4,7 @@ use mathlib.Core.List.{[]}
 use denote.Ref.{now}
 use borrow.Author.Needs.{needs}
 use Rattle.outset.proofs.Refusals.{unless-refused, append-refused, none-told}
+use Rattle.counterfactual.proofs.Listed.{boundary-refused}
 use Rattle.opening.specs.Opening.{openingFaults}
 use Rattle.opening.proofs.Openings.{opening-policy, opening-request}
 use Rattle.boundary.proofs.Bounds.{told-refused, margin-passed}
@@ -13,8 +14,10 @@ use Rattle.boundary.proofs.levers.margin_within.Tie as tie
 returns : tie.Need-returns
 returns c =
     let is = c .before .before .outcome .given .1 in
-    told-refused (c .refused .result) is (c .refused .ensures)
-    ∙ sym (unless-refused _ _ refl (append-refused _ _ is (c .before .before .before .before .opening-outcome .ensures)))
+    let opened = c .before .before .before .before .opening-outcome .ensures in (
+      told-refused (c .refused .result) is (c .refused .ensures) ∙ sym (unless-refused _ _ refl (append-refused _ _ is opened)),
+      c .refused .ensures ∙ sym (boundary-refused _ _ is opened),
+    )
 
 -- the tests passed
 none : (c : tie.After-enum-told) → let a = c .before .before .before .before .before .before .args in openingFaults (now (a .policy)) (now (a .request)) (now (a .bank)) 183 (a .room) ≡ []

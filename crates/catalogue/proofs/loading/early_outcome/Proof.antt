@@ -1,8 +1,8 @@
 -- `catalogue::early_outcome` meets its contract: 1 and 2, 16, 17. Assumes nothing.
+use mathlib.Core.Path.{refl}
 use borrow.Author.Needs.{needs}
 use Rattle.rules.specs.Trust.{earlyFaults}
-use Rattle.outset.proofs.Refusals.{none-told}
-use Rattle.catalogue.proofs.Stages.{stopped, stops}
+use Rattle.outset.proofs.Refusals.{append-refused, none-told}
 use Rattle.catalogue.proofs.loading.early_outcome.Statement.{statement}
 use Rattle.catalogue.proofs.loading.early_outcome.Tie as tie
 
@@ -11,7 +11,7 @@ unfolding earlyFaults
 returns c =
     let o = c .before in
     let e = o .whole .given .1 in
-    stopped _ e (stops _ _ e (stops _ _ e (o .before .before .bank-outcome .ensures)))
+    append-refused _ _ refl (append-refused _ _ e (o .before .before .bank-outcome .ensures))
 
 returns-2 : tie.Need-returns-2
 unfolding earlyFaults
@@ -20,7 +20,7 @@ returns-2 c =
     let b = o .before .before .before in
     let e = o .reserved .given .1 in
     rw (none-told _ (b .enum-told .given .1) (b .before .before .bank-outcome .ensures))
-    (stopped _ e (stops _ _ e (o .before .before .reserved-outcome .ensures)))
+    (append-refused _ _ e (o .before .before .reserved-outcome .ensures))
 
 returns-3 : tie.Need-returns-3
 unfolding earlyFaults

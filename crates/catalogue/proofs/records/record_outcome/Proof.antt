@@ -1,8 +1,8 @@
 -- `catalogue::record_outcome` meets its contract: 12, then 13 and 14. Assumes nothing.
+use mathlib.Core.Path.{refl}
 use borrow.Author.Needs.{needs}
 use Rattle.rules.specs.Validate.{recordFaults}
-use Rattle.outset.proofs.Refusals.{none-told}
-use Rattle.catalogue.proofs.Stages.{stopped, stops}
+use Rattle.outset.proofs.Refusals.{append-refused, none-told}
 use Rattle.catalogue.proofs.records.record_outcome.Statement.{statement}
 use Rattle.catalogue.proofs.records.record_outcome.Tie as tie
 
@@ -11,7 +11,7 @@ unfolding recordFaults
 returns c =
     let o = c .before in
     let e = o .repeated .given .1 in
-    stopped _ e (stops _ _ e (stops _ _ e (o .before .before .repeat-outcome .ensures)))
+    append-refused _ _ refl (append-refused _ _ e (o .before .before .repeat-outcome .ensures))
 
 returns-2 : tie.Need-returns-2
 unfolding recordFaults

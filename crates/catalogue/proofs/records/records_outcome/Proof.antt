@@ -8,8 +8,7 @@ use Rattle.rules.specs.Records.{listedOf}
 use Rattle.rules.specs.Validate.{recordsFaults}
 use Rattle.outset.specs.Refuse.{leading, toldLeading}
 use Rattle.catalogue.specs.Ids.{risesFrom}
-use Rattle.outset.proofs.Refusals.{none-told}
-use Rattle.catalogue.proofs.Stages.{stopped, stops}
+use Rattle.outset.proofs.Refusals.{append-refused, none-told}
 use Rattle.catalogue.proofs.Walks.{ids, recordsLeft, records-next, records-end}
 use Rattle.catalogue.proofs.records.records_outcome.Statement.{statement}
 use Rattle.catalogue.proofs.records.records_outcome.Tie as tie
@@ -29,7 +28,7 @@ returns c =
     let o = c .before in
     let l = o .before .before .before .before .loop in
     let e = o .outcome .given .1 in
-    stopped _ e (stops _ _ e (o .before .before .record-outcome .ensures)) ∙ ap leading (sym (l .inv .2 ∙ records-next _ (l .i) (omega arith)))
+    append-refused _ _ e (o .before .before .record-outcome .ensures) ∙ ap leading (sym (l .inv .2 ∙ records-next _ (l .i) (omega arith)))
 
 loop-again : tie.Need-loop-again Inv-loop μ-loop
 loop-again c =

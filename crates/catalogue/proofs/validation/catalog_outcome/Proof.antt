@@ -1,19 +1,29 @@
 -- `catalogue::catalog_outcome` meets its contract: 10, 11, the records, 15. Assumes nothing.
+use mathlib.Core.Path.{_≡_, refl}
+use mathlib.Core.List.{_∷_}
 use borrow.Author.Needs.{needs}
 use Rattle.rules.specs.Validate.{catalogFaults}
+use Rattle.rules.specs.Refused.{Faults, toldRefusal}
+use Rattle.rules.specs.declared.refusal.Refusal.{Refusal}
 use Rattle.rules.specs.declared.refusal.Refusal.the-variants.{EmptyCatalog}
-use Rattle.outset.proofs.Refusals.{none-told}
-use Rattle.catalogue.proofs.Stages.{stopped, stops, tells}
+use Rattle.rules.specs.declared.refusal.Outcome.the-variants.{Refused}
+use Rattle.outset.specs.Refuse.{leading, toldLeading}
+use Rattle.outset.proofs.Refusals.{append-refused, none-told}
 use Rattle.catalogue.proofs.Walks.{empty-yes, empty-no}
 use Rattle.catalogue.proofs.validation.catalog_outcome.Statement.{statement}
 use Rattle.catalogue.proofs.validation.catalog_outcome.Tie as tie
+
+-- a refusal tells the number that stands first
+tells : (r : Refusal) (fs : Faults) → toldLeading (Refused r) ≡ leading (toldRefusal r ∷ fs)
+unfolding leading toldLeading
+tells r fs = refl
 
 returns : tie.Need-returns
 unfolding catalogFaults
 returns c =
     let o = c .before in
     let e = o .limits .given .1 in
-    stopped _ e (stops _ _ e (stops _ _ e (stops _ _ e (o .before .before .policy-outcome .ensures))))
+    append-refused _ _ refl (append-refused _ _ refl (append-refused _ _ e (o .before .before .policy-outcome .ensures)))
 
 returns-2 : tie.Need-returns-2
 unfolding catalogFaults
@@ -29,7 +39,7 @@ returns-3 c =
     let o = n .before in
     let e = r .records .given .1 in
     rw (none-told _ (o .enum-told .given .1) (o .before .before .policy-outcome .ensures), empty-no _ (n .if1 .left))
-    (stopped _ e (stops _ _ e (r .before .before .records-outcome .ensures)))
+    (append-refused _ _ e (r .before .before .records-outcome .ensures))
 
 returns-4 : tie.Need-returns-4
 unfolding catalogFaults

@@ -1,8 +1,7 @@
 -- `catalogue::validate` meets its contract: 1 and 2, then the catalogue. Assumes nothing.
 use borrow.Author.Needs.{needs}
 use Rattle.rules.specs.Validate.{validateOf}
-use Rattle.outset.proofs.Refusals.{leading-told, none-told}
-use Rattle.catalogue.proofs.Stages.{stopped, stops}
+use Rattle.outset.proofs.Refusals.{append-refused, leading-told, none-told}
 use Rattle.catalogue.proofs.validation.validate.Statement.{statement}
 use Rattle.catalogue.proofs.validation.validate.Tie as tie
 
@@ -11,7 +10,7 @@ unfolding validateOf
 returns c =
     let o = c .before in
     let e = o .whole .given .1 in
-    leading-told _ _ (stopped _ e (stops _ _ e (o .before .before .bank-outcome .ensures)))
+    leading-told _ _ (append-refused _ _ e (o .before .before .bank-outcome .ensures))
 
 returns-2 : tie.Need-returns-2
 unfolding validateOf

@@ -1,7 +1,6 @@
 -- `explain::candidate_verdict` meets its contract. Assumes nothing.
 use mathlib.Core.Path.{sym, ap, _∙_}
 use borrow.Author.Needs.{needs}
-use Rattle.rules.specs.Verdict.{rejected}
 use Rattle.rules.proofs.Choices.{below-yes, below-no}
 use Rattle.ranking.specs.Verdict.{pricedIn, verdictIn}
 use Rattle.explain.specs.Scanned.{scanned}

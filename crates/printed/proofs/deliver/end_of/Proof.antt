@@ -3,7 +3,6 @@ use Rattle.printed.specs.Ends.{endOf}
 use borrow.Author.Needs.{needs}
 use Rattle.printed.proofs.deliver.end_of.Statement.{statement}
 use Rattle.printed.proofs.deliver.end_of.Tie as tie
-use Rattle.splice.proofs.Pieces.{written}
 
 returns : tie.Need-returns
 unfolding endOf

@@ -1,2 +1,0 @@
--- What is said where no lever wins.
-pub mod Nothing
