@@ -84,7 +84,8 @@ extern "C" {
 #define VOLANKIZO_STORED_POLICY_BYTES 38
 #define VOLANKIZO_REQUEST_FORM_BYTES 73
 #define VOLANKIZO_UNIT_TEXT_BYTES 848
-#define VOLANKIZO_ASK_TEXT_BYTES 808
+#define VOLANKIZO_ASK_TEXT_BYTES 678
+#define VOLANKIZO_ASK_WORDS_BYTES 808
 
 /* The bytes of a stored form with a bank of so many bytes. */
 #define VOLANKIZO_STORED_FORM_BYTES(bank_len) ((size_t)(bank_len) + 36)
@@ -177,7 +178,7 @@ uint64_t volankizo_read_request(const uint8_t *form, size_t form_len, uint8_t *o
 uint64_t volankizo_unit_text(const uint8_t *input, size_t input_len, uint8_t *out, size_t out_len);
 
 /* The same for what would make a model win, as `ask ID` prints it: `decision`, a `lever` for each that wins by itself, `passes` and their
- * number; or `refused`, last of all with 5. 808 bytes always suffice. Refusals: 4. */
+ * number; or `refused`, last of all with 5. 678 bytes always suffice. Refusals: 4. */
 uint64_t volankizo_ask_text(const uint8_t *input, size_t input_len, uint32_t id, uint8_t *out, size_t out_len);
 
 /* The same in words, as `ask ID words` prints it: a sentence for each lever, or one that says why there is none. 808 bytes always suffice.

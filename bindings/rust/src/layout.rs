@@ -30,8 +30,10 @@ pub const STORED_POLICY_BYTES: usize = 38;
 pub const REQUEST_FORM_BYTES: usize = 73;
 /// Room that every text of `unit` fits in, with its length before it.
 pub const UNIT_TEXT_BYTES: usize = 848;
-/// The same for both texts of `ask`.
-pub const ASK_TEXT_BYTES: usize = 808;
+/// The same for `ask ID`, in lines.
+pub const ASK_TEXT_BYTES: usize = 678;
+/// The same for `ask ID words`.
+pub const ASK_WORDS_BYTES: usize = 808;
 
 /// A stored form with a bank of so many bytes, held at `usize::MAX`.
 pub const fn stored_form_bytes(bank_bytes: usize) -> usize {

@@ -1,7 +1,7 @@
 //! What the programs print, for an input of their kind: a stored form with a request form after it.
 //! An input that they refuse is no refusal here: its text is the line `refused N`.
 use crate::ffi;
-use crate::layout::{broken, Fields, ASK_TEXT_BYTES, UNIT_TEXT_BYTES};
+use crate::layout::{broken, Fields, ASK_TEXT_BYTES, ASK_WORDS_BYTES, UNIT_TEXT_BYTES};
 use crate::refusal::Refusal;
 
 /// What `unit` prints: decision, counts and margin. Never refused.
@@ -20,7 +20,7 @@ pub fn ask_text(input: &[u8], model_id: u32) -> Result<String, Refusal> {
 
 /// The same in words, as `ask ID words` prints it. Never refused.
 pub fn ask_words(input: &[u8], model_id: u32) -> Result<String, Refusal> {
-    let mut out = [0; ASK_TEXT_BYTES];
+    let mut out = [0; ASK_WORDS_BYTES];
     Refusal::told(ffi::ask_words(input, model_id, &mut out))?;
     Ok(text(&out))
 }

@@ -52,6 +52,7 @@ fn the_same_sizes() {
         ("REQUEST_FORM_BYTES", REQUEST_FORM_BYTES),
         ("UNIT_TEXT_BYTES", UNIT_TEXT_BYTES),
         ("ASK_TEXT_BYTES", ASK_TEXT_BYTES),
+        ("ASK_WORDS_BYTES", ASK_WORDS_BYTES),
         ("MAX_STORED_MODELS", MAX_STORED_MODELS),
     ];
     assert_eq!(BTreeMap::from(ours), numbers());

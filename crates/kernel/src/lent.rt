@@ -21,8 +21,8 @@ use rules::limits::RECORD_BYTES;
 use scan::pricing_for;
 use scan::scan_on;
 
-// What `prescribe_with_trace` decides over a bank of whole records. It calls no function that another one calls with the same structs:
-// all but the scan is compiled into this one, and nothing is copied on the way. On a small bank those copies are a tenth of the time.
+// What `prescribe_with_trace` decides over a bank of whole records. Policy and request come as their bytes: handed on as structs they would
+// be stored and loaded once more before the scan, which is a tenth of the time on a small bank (docs/SPEED.md).
 pub fn traced_lent(policy: &[u8], request: &[u8], bank: &[u8]) -> Traced
     requires { ⌜ (policyBytes ≤ length (now policy)) × (requestBytes ≤ length (now request)) × (recordsIn (length (now bank)) ≤ maxCatalogModels) ⌝ }
     ensures { λ r. ⌜ toldTraced r ≡ answered (tracedOf (policyOf (now (policy .entry))) (inputOf (now (request .entry))) (listedOf (now (bank .entry)))) ⌝ }

@@ -29,7 +29,7 @@ fault n = record { number = n; field = 0; value = 0; id = 0; place = 0 }
 abbrev pub noFault : Fault
 noFault = fault 0
 
--- N3, N10, N12, N13, N14 and N17: those that carry values
+-- N27. Those that carry values: 3, 10, and 12, 13, 14 and 17 of a model
 abbrev pub inputFault : ℕ → ℕ → ℕ → Fault
 inputFault field value place = record { number = 3; field = field; value = value; id = 0; place = place }
 
@@ -39,6 +39,7 @@ policyFault field value = record { number = 10; field = field; value = value; id
 abbrev pub modelFault : ℕ → ℕ → ℕ → ℕ → Fault
 modelFault n field id value = record { number = n; field = field; value = value; id = id; place = 0 }
 
+-- N27. Each refusal's number, with what it carries
 abbrev pub toldRefusal : Refusal → Fault
 toldRefusal refusal.UnevenBank = fault 1
 toldRefusal refusal.CatalogTooLarge = fault 2
@@ -97,12 +98,12 @@ pub data Answer (A : Type 0) : Type 0 where
   refused : Fault → Answer A
   answered : A → Answer A
 
--- The first fault, or the answer where there is none
+-- N28. The first fault, or the answer where there is none
 abbrev pub unless : {A : Type 0} → Faults → Answer A → Answer A
 unless [] a = a
 unless (f ∷ fs) a = refused f
 
--- The first fault alone
+-- N28. The first fault alone; no number where there is none
 abbrev pub firstFault : Faults → Fault
 firstFault [] = noFault
 firstFault (f ∷ fs) = f

@@ -78,7 +78,7 @@ pub extern "C" fn volankizo_unit_text(input: &[u8], out: &mut [u8]) -> u64
     unit_text_delivered(input, out)
 }
 
-// What would make a model win, as `ask ID` prints it. `out`: 808 bytes always suffice. Refused and written as above.
+// What would make a model win, as `ask ID` prints it. `out`: 678 bytes always suffice. Refused and written as above.
 #[no_mangle]
 pub extern "C" fn volankizo_ask_text(input: &[u8], id: u32, out: &mut [u8]) -> u64
     ensures word { λ r. ⌜ r ≡ wordOf (firstFault (textFaults (askText id (now (input .entry))) (length (now (out .entry))))) ⌝ }
