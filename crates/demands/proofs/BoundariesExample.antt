@@ -28,9 +28,9 @@ use Rattle.rules.proofs.Example.{bank, policy, request, lever, noLever, boundar
 use Rattle.rules.proofs.Table.{choice}
 use Rattle.demands.specs.Standing.{UniqueIds}
 use Rattle.demands.specs.Demand3.{question, qualityEntry, latencyEntry, priceEntry, ceilingEntry, ofLever, entriesFor, Unselected, SwitchedOn, winPasses, marginPasses, WinExact, MarginExact}
-use Rattle.demands.proofs.Winning.{answered-win, what-would-win-exact}
+use Rattle.demands.proofs.Winning.{what-would-win-exact}
 use Rattle.demands.proofs.Margins.{decision-margin-exact}
-use Rattle.demands.proofs.Passes.{win-passes, keep-passes}
+use Rattle.demands.proofs.Passes.{searched-passes, kept-passes}
 
 abbrev p : PolicySnapshot
 p = policyOf policy
@@ -63,7 +63,7 @@ is-on : SwitchedOn (modelAt bank 0)
 unfolding modelOf number
 is-on e = omega arith
 
-decides-two : decisionOf p q ls ≡ choice
+pub decides-two : decisionOf p q ls ≡ choice
 unfolding below atLeast equal lower higher number modelOf inputOf policyOf listedOf gateOf billed costOf shareOf qualityTermOf riskTermOf latencyTermOf exactUtilityOf utilityOf pricedOf verdictOf better ranking stoppedBy executedAs chosen decidedOf decisionOf
 decides-two = refl
 
@@ -112,16 +112,14 @@ one-not-by-ceiling v h k = exact-B .ceiling .missing .0 (ap (entriesFor 4) row-B
 
 -- the 26 passes are the halvings' own
 passes-B : winPasses one ≡ 26
-passes-B =
-    sym (win-passes p q ls 1 (listed 0 (modelAt bank 0)) one-unselected is-on)
-    ∙ ap (λ (b : Boundary). b .passes) (sym (answered-win p q bank 1 no-fault) ∙ row-B)
+passes-B = sym (searched-passes p q bank 1 (listed 0 (modelAt bank 0)) no-fault one-unselected is-on) ∙ ap (λ (b : Boundary). b .passes) row-B
 
 -- ---- (C) the margin of model 2
 
 executed : isRejection (decisionOf p q ls) ≡ false
 executed = rw decides-two
 
-first-is-two : firstListed 2 ls ≡ some (listed 1 (modelAt bank 1))
+pub first-is-two : firstListed 2 ls ≡ some (listed 1 (modelAt bank 1))
 unfolding firstListed equal listedOf modelOf number
 first-is-two = refl
 
@@ -182,6 +180,9 @@ two-by-ceiling : (v : ℕ) → v ≤ 8000 → (wins two 4 v ≡ true) ↔ (1000 
 unfolding modelOf number
 two-by-ceiling v h = exact-C .ceiling .exact 1000 ceiling-given .exactly v ((omega arith), h)
 
--- and the margin's passes are its halvings' own
-passes-C : marginIn p q ls .passes ≡ marginPasses (question p q ls (decisionOf p q ls .model) (modelAt bank 1))
-passes-C = keep-passes p q ls (listed 1 (modelAt bank 1)) executed (rw chosen-is-two first-is-two)
+-- and the margin's 95 passes are the halvings' own
+passes-C : marginPasses two ≡ 95
+passes-C =
+    ap (λ id. marginPasses (question p q ls id (modelAt bank 1))) (sym chosen-is-two)
+    ∙ sym (kept-passes p q bank (listed 1 (modelAt bank 1)) no-fault executed (rw chosen-is-two first-is-two))
+    ∙ ap (λ (b : Boundary). b .passes) row-C

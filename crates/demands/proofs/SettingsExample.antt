@@ -1,10 +1,10 @@
 -- Demand 3 beside rows (B) and (C), at variants of the example: a model that is off, a request that is stopped, an id that is selected, a
 -- rejection and id 0, a margin without a lever, and the passes. Assumes nothing.
 use Prim.Native.Nat.{ℕ, _≤_}
-use mathlib.Core.Path.{_≡_, refl}
+use mathlib.Core.Path.{_≡_, refl, _∙_}
 use mathlib.Core.Bool.{Bool, true, false, cond, false≢true}
 use mathlib.Core.List.{List, [], _∷_, _++_}
-use mathlib.Core.Logic.{_↔_}
+use mathlib.Core.Logic.{_↔_, inl, inr}
 use native.Mathlib.Omega.{arith}
 use borrow.Author.Tests.{ltb-true}
 use lib.Dec.{ltb}
@@ -30,13 +30,14 @@ use Rattle.rules.specs.declared.records.KernelInput.{KernelInput}
 use Rattle.rules.specs.declared.records.PolicySnapshot.{PolicySnapshot}
 use Rattle.rules.proofs.Example.{bank, modelOne, modelTwo, policy, request, with}
 use Rattle.rules.specs.Printed.{entriesOf}
-use Rattle.demands.specs.Demand3.{question, priceEntry, enabledEntry, ofLever, entriesFor, AreBytes, Sound, Unselected, OffExact, WinExact, MarginExact}
+use Rattle.demands.specs.Demand3.{question, priceEntry, enabledEntry, ofLever, entriesFor, passesToWin, passesToWinIn, passesToWinOf, passesToKeepIn, passesToKeepOf, AreBytes, Sound, Unselected, OffExact, WinExact, MarginExact}
 use Rattle.demands.proofs.Selected.{rejection-selects-none}
 use Rattle.demands.proofs.Winning.{what-would-win-exact}
-use Rattle.demands.proofs.Unsearched.{stopped-empty, selected-empty, off-passes, switched-off-exact}
+use Rattle.demands.proofs.Unsearched.{unsearched-empty, switched-off-exact}
 use Rattle.demands.proofs.Margins.{keep-exact}
 use Rattle.demands.proofs.Validated.{validated-sound}
-use Rattle.demands.proofs.Passes.{what-would-win-few, decision-margin-few, decision-margin-few-within}
+use Rattle.demands.proofs.BoundariesExample.{first-is-two, decides-two}
+use Rattle.demands.proofs.Passes.{what-would-win-passes, decision-margin-passes, what-would-win-few, decision-margin-few, decision-margin-few-within}
 
 abbrev p : PolicySnapshot
 p = policyOf policy
@@ -115,9 +116,9 @@ free-off : OffExact (whatWouldWinOf p q free 1) (off free)
 unfolding lengthFaults below equal modelOf number
 free-off = switched-off-exact p q free 1 (listed 0 (modelAt free 0)) refl free-unselected refl
 
-two-passes : winIn p q (listedOf free) 1 .passes ≡ 2
-unfolding modelOf number
-two-passes = off-passes p q (listedOf free) 1 (listed 0 (modelAt free 0)) free-unselected refl
+two-passes : whatWouldWinOf p q free 1 .passes ≡ 2
+unfolding lengthFaults below equal modelOf number passesToWin passesToWinIn passesToWinOf
+two-passes = what-would-win-passes p q free 1 ∙ rw (free-unselected .listed, free-unselected .goesOn, free-unselected .notSelected)
 
 dear-off : OffExact (whatWouldWinOf p q dear 1) (off dear)
 unfolding below atLeast equal lower higher number modelOf inputOf policyOf listedOf gateOf billed costOf scaledPrice shareOf qualityTermOf riskTermOf latencyTermOf exactUtilityOf utilityOf pricedOf verdictOf better ranking stoppedBy executedAs chosen decidedOf decisionOf lengthFaults firstListed selects
@@ -136,13 +137,35 @@ nothing-listed = dear-off .missing .1 refl
 abbrev risky : KernelInput
 risky = inputOf (with 36 (40 ∷ 35 ∷ []) request)
 
-stopped : (entriesOf (winIn p risky (listedOf bank) 1) ≡ []) × (winIn p risky (listedOf bank) 1 .passes ≡ 1)
-unfolding stoppedBy atLeast below equal number modelOf inputOf policyOf listedOf firstListed
-stopped = stopped-empty p risky (listedOf bank) 1 (listed 0 (modelAt bank 0)) refl (omega arith)
+stopped : entriesOf (whatWouldWinOf p risky bank 1) ≡ []
+unfolding lengthFaults stoppedBy atLeast below equal number modelOf inputOf policyOf listedOf firstListed
+stopped = unsearched-empty p risky bank 1 (listed 0 (modelAt bank 0)) refl refl (inl (omega arith))
 
-selected : (entriesOf (winIn p q (listedOf bank) 2) ≡ []) × (winIn p q (listedOf bank) 2 .passes ≡ 1)
-unfolding below atLeast equal lower higher number modelOf inputOf policyOf listedOf gateOf billed costOf scaledPrice shareOf qualityTermOf riskTermOf latencyTermOf exactUtilityOf utilityOf pricedOf verdictOf better ranking stoppedBy executedAs chosen decidedOf decisionOf firstListed selects
-selected = selected-empty p q (listedOf bank) 2 (listed 1 (modelAt bank 1)) refl refl
+stopped-once : whatWouldWinOf p risky bank 1 .passes ≡ 1
+unfolding lengthFaults stoppedBy atLeast below equal number modelOf inputOf policyOf listedOf firstListed passesToWin passesToWinIn passesToWinOf
+stopped-once = what-would-win-passes p risky bank 1
+
+two-selected : selects 2 (decisionOf p q (listedOf bank)) ≡ true
+unfolding selects
+two-selected = rw decides-two
+
+selected : entriesOf (whatWouldWinOf p q bank 2) ≡ []
+unfolding lengthFaults below equal
+selected = unsearched-empty p q bank 2 (listed 1 (modelAt bank 1)) refl first-is-two (inr two-selected)
+
+selected-once : whatWouldWinOf p q bank 2 .passes ≡ 1
+unfolding lengthFaults stoppedBy atLeast below equal number inputOf policyOf passesToWin passesToWinIn passesToWinOf
+selected-once = what-would-win-passes p q bank 2 ∙ rw (first-is-two, two-selected)
+
+-- ---- refused, no pass: an id that isn't listed, a bank of one byte; a rejection that has no margin is below
+
+unlisted : whatWouldWinOf p q bank 3 .passes ≡ 0
+unfolding lengthFaults below equal number modelOf listedOf firstListed passesToWinIn passesToWinOf
+unlisted = what-would-win-passes p q bank 3
+
+uneven : decisionMarginOf p q (0 ∷ []) .passes ≡ 0
+unfolding lengthFaults below equal passesToKeepOf
+uneven = decision-margin-passes p q (0 ∷ [])
 
 -- ---- a rejection selects no id, 0 included: model 0 without a budget is rejected, and only a price of nothing selects it
 
@@ -155,6 +178,11 @@ broke = inputOf (with 28 (0 ∷ 0 ∷ []) request)
 rejected : isRejection (decisionOf p broke (listedOf nameless)) ≡ true
 unfolding below atLeast equal lower higher number modelOf inputOf policyOf listedOf gateOf billed costOf scaledPrice shareOf qualityTermOf riskTermOf latencyTermOf exactUtilityOf utilityOf pricedOf verdictOf better ranking stoppedBy executedAs chosen decidedOf decisionOf rejection
 rejected = refl
+
+-- and it has no margin, so no pass
+no-margin : decisionMarginOf p broke nameless .passes ≡ 0
+unfolding lengthFaults below equal passesToKeepIn passesToKeepOf
+no-margin = decision-margin-passes p broke nameless ∙ rw rejected
 
 zero-not-selected : selects 0 (decisionOf p broke (listedOf nameless)) ≡ false
 zero-not-selected = rejection-selects-none 0 (decisionOf p broke (listedOf nameless)) rejected

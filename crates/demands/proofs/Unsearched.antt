@@ -1,16 +1,17 @@
 -- DEMAND 3 where no lever is searched: a model that is off, a request that is stopped, an id that is selected; and rejections, which select
 -- no id at any setting. Assumes nothing: ids may repeat.
-use Prim.Native.Nat.{ℕ, _+_, _<_}
+use Prim.Native.Nat.{ℕ, _<_}
 use mathlib.Core.Path.{_≡_, refl, sym, ap, subst, _∙_}
 use mathlib.Core.Bool.{Bool, true, false, false≢true}
+use mathlib.Core.Logic.{_⊎_, inl, inr}
 use mathlib.Core.List.{List, []}
 use mathlib.Core.Option.{some}
 use native.Mathlib.Omega.{arith}
-use borrow.Author.Tests.{eq-eqb, ne-eqb}
+use borrow.Author.Tests.{ne-eqb}
 use lib.ListN.{length}
 use Rattle.rules.specs.Records.{Listed, listedOf}
 use Rattle.rules.specs.Refused.{bankFaults}
-use Rattle.rules.specs.Numbers.{isRejection, Boundary}
+use Rattle.rules.specs.Numbers.{isRejection}
 use Rattle.rules.specs.Decide.{stoppedBy, decisionOf}
 use Rattle.rules.specs.Listing.{firstListed}
 use Rattle.rules.specs.Levers.{Question, selects, decisionAt, wins, boundaryOf}
@@ -20,7 +21,7 @@ use Rattle.rules.specs.declared.records.PolicySnapshot.{PolicySnapshot}
 use Rattle.rules.specs.Printed.{entriesOf}
 use Rattle.demands.specs.Demand3.{question, Unselected, OffExact}
 use Rattle.demands.proofs.Selected.{rejection-selects-none, selects-chose, stopped-rejects, selected-chosen}
-use Rattle.demands.proofs.Winning.{answered-win, searched, used-searched, no-refusal}
+use Rattle.demands.proofs.Winning.{answered-win, used-searched, no-refusal}
 
 -- ---- rejections
 
@@ -42,15 +43,15 @@ stopped-at-setting a lever v h = rejected-at-setting a lever v (stopped-rejects 
 -- ---- what would win, over any list
 
 module _ (p : PolicySnapshot) (q : KernelInput) (ls : List Listed) (id : ℕ) (l : Listed) (first : firstListed id ls ≡ some l) where
-  -- Demand 3. Stopped by a request limit: no entry, one pass
-  pub stopped-empty : 0 < stoppedBy p q → (entriesOf (winIn p q ls id) ≡ []) × (winIn p q ls id .passes ≡ 1)
+  -- Demand 3. Stopped by a request limit: no entry
+  pub stopped-empty : 0 < stoppedBy p q → entriesOf (winIn p q ls id) ≡ []
   unfolding winIn winFor boundaryOf
-  stopped-empty h = rw (first, ne-eqb (stoppedBy p q) 0 (λ e. omega arith)) (refl, refl)
+  stopped-empty h = rw (first, ne-eqb (stoppedBy p q) 0 (λ e. omega arith))
 
-  -- Demand 3. Selected already: no entry, one pass
-  pub selected-empty : selects id (decisionOf p q ls) ≡ true → (entriesOf (winIn p q ls id) ≡ []) × (winIn p q ls id .passes ≡ 1)
+  -- Demand 3. Selected already: no entry
+  pub selected-empty : selects id (decisionOf p q ls) ≡ true → entriesOf (winIn p q ls id) ≡ []
   unfolding winIn winFor boundaryOf
-  selected-empty e = let z = selected-chosen p q ls id e .0 in rw (first, z, e) (refl, refl)
+  selected-empty e = let z = selected-chosen p q ls id e .0 in rw (first, z, e)
 
 module _ (p : PolicySnapshot) (q : KernelInput) (ls : List Listed) (id : ℕ) (l : Listed) (u : Unselected p q ls id l) (off : l .model .enabled ≡ 0) where
   off-used : entriesOf (winIn p q ls id) ≡ ifOn (wins (question p q ls id (l .model)) 5 1) .entries
@@ -75,16 +76,17 @@ module _ (p : PolicySnapshot) (q : KernelInput) (ls : List Listed) (id : ℕ) (l
             missing = (λ s. w, λ s. k);
           }
 
-  -- Demand 3. Two passes: the opening decision, and the one with the model switched on
-  pub off-passes : winIn p q ls id .passes ≡ 2
-  unfolding boundaryOf winSearch
-  off-passes = ap (λ (b : Boundary). b .passes) (searched p q ls id l u) ∙ rw (eq-eqb (l .model .enabled) 0 off) (two (wins (question p q ls id (l .model)) 5 1))
-    where
-      two : (t : Bool) → 1 + ifOn t .passes ≡ 2
-      two true = refl
-      two false = refl
+-- ---- what would win, of a bank
 
--- Demand 3. SWITCHED OFF, of a bank
+-- Demand 3. STOPPED BY A REQUEST LIMIT, OR SELECTED ALREADY: no entry
+pub unsearched-empty : (p : PolicySnapshot) (q : KernelInput) (bank : List ℕ) (id : ℕ) (l : Listed) → bankFaults bank ≡ []
+    → firstListed id (listedOf bank) ≡ some l
+    → (0 < stoppedBy p q) ⊎ (selects id (decisionOf p q (listedOf bank)) ≡ true)
+    → entriesOf (whatWouldWinOf p q bank id) ≡ []
+unsearched-empty p q bank id l whole first (inl h) = ap entriesOf (answered-win p q bank id whole) ∙ stopped-empty p q (listedOf bank) id l first h
+unsearched-empty p q bank id l whole first (inr e) = ap entriesOf (answered-win p q bank id whole) ∙ selected-empty p q (listedOf bank) id l first e
+
+-- Demand 3. SWITCHED OFF: enabled is listed exactly if switching it on selects the id
 pub switched-off-exact : (p : PolicySnapshot) (q : KernelInput) (bank : List ℕ) (id : ℕ) (l : Listed) → bankFaults bank ≡ [] → Unselected p q (listedOf bank) id l → l .model .enabled ≡ 0 → OffExact (whatWouldWinOf p q bank id) (question p q (listedOf bank) id (l .model))
 switched-off-exact p q bank id l whole u off =
     subst (λ answer. OffExact answer (question p q (listedOf bank) id (l .model))) (sym (answered-win p q bank id whole))

@@ -6,7 +6,9 @@ use mathlib.Core.List.{List, [], _∷_}
 use mathlib.Core.Option.{some, Option·some-injective, Option·none-ne-some}
 use native.Mathlib.Omega.{arith}
 use lib.Dec.{eqb}
-use lib.ListN.{length, take, drop}
+use lib.ListN.{length, getD, take, drop}
+use mir.Syntax.{w8}
+use mir.Val.{Fits}
 use Rattle.rules.specs.Limits.{recordBytes}
 use Rattle.rules.specs.Choice.{equal}
 use Rattle.rules.specs.Bytes.{number}
@@ -15,6 +17,11 @@ use Rattle.rules.specs.Listing.{firstListed}
 use Rattle.rules.specs.declared.records.KernelModel.{KernelModel}
 use Rattle.demands.specs.Lists.{Each}
 use Rattle.demands.specs.Demand3.{AreBytes, Within}
+
+-- A LENT SLICE HOLDS BYTES: what its type tells of every place
+pub lent-bytes : (s : List ℕ) → ((i : ℕ) → Fits w8 (getD s i 0)) → AreBytes s
+lent-bytes [] h = tt
+lent-bytes (b ∷ s) h = (h 0 .fits, lent-bytes s (λ i. h (suc i)))
 
 -- parts of bytes are bytes
 bytes-dropped : (n : ℕ) (s : List ℕ) → AreBytes s → AreBytes (drop n s)

@@ -1,14 +1,14 @@
 -- DEMAND 3 in words: the searched settings, and what it is for the answers of `what_would_win` and `decision_margin` to be exact.
 use Prim.Native.Nat.{ℕ, _+_, _-_, _^_, _≤_, _<_}
 use mathlib.Core.Path.{_≡_}
-use mathlib.Core.Bool.{Bool, true, false}
+use mathlib.Core.Bool.{Bool, true, false, cond}
 use mathlib.Core.List.{List, [], _∷_, _++_}
 use mathlib.Core.Logic.{_↔_}
-use mathlib.Core.Option.{none, some}
+use mathlib.Core.Option.{Option, none, some}
 use Rattle.rules.specs.Choice.{equal}
 use Rattle.rules.specs.Records.{Listed, listedOf}
-use Rattle.rules.specs.Refused.{noFault, bankFaults}
-use Rattle.rules.specs.Numbers.{Entry, Boundary}
+use Rattle.rules.specs.Refused.{Faults, noFault, bankFaults}
+use Rattle.rules.specs.Numbers.{isRejection, Entry, Boundary}
 use Rattle.rules.specs.Decide.{stoppedBy, decisionOf}
 use Rattle.rules.specs.Listing.{firstListed}
 use Rattle.rules.specs.Halving.{Side, Lowest, Highest, searchOf, searchAfterFarEnd, passesOf}
@@ -151,7 +151,7 @@ pub record MarginOfChoice (p : PolicySnapshot) (q : KernelInput) (ls : List List
 
 -- ---- passes
 
--- A price's search with the decision for its cost, which is made where a boundary was found
+-- A price's search with the decision for its cost, which is made where a boundary was found: one pass more
 abbrev pub passesWithCost : Bound → ℕ
 passesWithCost (At b n) = n + 1
 passesWithCost (Nothing n) = n
@@ -163,7 +163,7 @@ halvingIn side test r = searchOf side test (r .low) (r .high)
 abbrev pub halvingAfterFarEnd : Side → (ℕ → Bool) → Range → Bound
 halvingAfterFarEnd side test r = searchAfterFarEnd side test (r .low) (r .high)
 
--- The opening decision, and the halvings of four levers
+-- Four levers are searched: the opening decision, and each lever's halving
 abbrev pub winPasses : Question → ℕ
 winPasses a =
     1
@@ -179,6 +179,40 @@ marginPasses a =
     + (passesOf (halvingAfterFarEnd Highest (wins a 2) (marginLatency (a .model)))
     + (passesWithCost (halvingAfterFarEnd Highest (wins a 3) marginPrice)
     + passesOf (halvingAfterFarEnd Lowest (wins a 4) (marginCeiling (a .model))))))
+
+-- What would win, of a listed model: 1 pass where a limit stops the request, 1 where the id is selected already, 2 where the model is off; else
+-- four levers are searched
+unfoldable pub passesToWin : Question → ℕ
+passesToWin a =
+    equal (stoppedBy (a .policy) (a .request)) 0
+    (cond (selects (a .id) (decisionOf (a .policy) (a .request) (a .list))) 1
+    (equal (a .model .enabled) 0 2 (winPasses a)))
+    1
+
+-- A refusal carries no count: neither an id that isn't listed nor a bank with a fault of its length has a pass
+abbrev pub passesIfListed : (Question → ℕ) → PolicySnapshot → KernelInput → List Listed → ℕ → Option Listed → ℕ
+passesIfListed passes p q ls id none = 0
+passesIfListed passes p q ls id (some l) = passes (question p q ls id (l .model))
+
+abbrev pub passesUnless : Faults → ℕ → ℕ
+passesUnless [] n = n
+passesUnless (f ∷ fs) n = 0
+
+-- The passes that `what_would_win` owes, in every case: over a list, and over a bank
+unfoldable pub passesToWinIn : PolicySnapshot → KernelInput → List Listed → ℕ → ℕ
+passesToWinIn p q ls id = passesIfListed passesToWin p q ls id (firstListed id ls)
+
+unfoldable pub passesToWinOf : PolicySnapshot → KernelInput → List ℕ → ℕ → ℕ
+passesToWinOf p q bank id = passesUnless (bankFaults bank) (passesToWinIn p q (listedOf bank) id)
+
+-- And those that `decision_margin` owes: none where the decision is a rejection, which is refused too
+unfoldable pub passesToKeepIn : PolicySnapshot → KernelInput → List Listed → ℕ
+passesToKeepIn p q ls =
+    let d = decisionOf p q ls in
+    cond (isRejection d) 0 (passesIfListed marginPasses p q ls (d .model) (firstListed (d .model) ls))
+
+unfoldable pub passesToKeepOf : PolicySnapshot → KernelInput → List ℕ → ℕ
+passesToKeepOf p q bank = passesUnless (bankFaults bank) (passesToKeepIn p q (listedOf bank))
 
 -- The most that a search for what would win takes; that a margin takes; and that one takes where quality and ceiling are within 10,000
 abbrev pub mostToWin : ℕ

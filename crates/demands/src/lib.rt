@@ -1,1 +1,19 @@
-// What follows from the rules, for a reader. There is no code here: definitions are in specs/, theorems in proofs/.
+// What follows from the rules, for a reader: definitions are in specs/, theorems in proofs/. The functions do nothing: they let a theorem
+// speak of every slice that can be lent.
+ghost use Prim.Native.Nat.{_≤_};
+ghost use Rattle.rules.specs.Win.{whatWouldWinOf};
+ghost use Rattle.rules.specs.Margin.{decisionMarginOf};
+ghost use Rattle.demands.specs.Demand3.{mostToWin, mostForMargin};
+use rules::KernelInput;
+use rules::PolicySnapshot;
+
+// What is lent is known to be bytes where something is called.
+fn lent(bank: &[u8]) {}
+
+// Demand 3. OF EVERY BANK THAT CAN BE LENT: what would win takes at most 86 passes, a margin at most 103.
+fn few_passes(policy: PolicySnapshot, bank: &[u8], input: KernelInput, id: u32)
+    ensures { λ r. ⌜ (whatWouldWinOf policy input (now (bank .entry)) id .passes ≤ mostToWin)
+        × (decisionMarginOf policy input (now (bank .entry)) .passes ≤ mostForMargin) ⌝ }
+{
+    lent(bank);
+}
