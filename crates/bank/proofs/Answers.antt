@@ -1,16 +1,24 @@
 -- ANY TWO PERMITTED ANSWERS ARE EQUAL, for each call that a user makes. Assumes nothing.
-use Prim.Native.Nat.{ℕ}
+use Prim.Native.Nat.{ℕ, _+_}
+use mathlib.Core.Path.{_≡_, sym, _∙_}
 use mathlib.Core.List.{List}
+use denote.Ref.{RefT, now, ptr}
 use Rattle.rules.specs.Records.{modelOf, inputOf, policyOf}
 use Rattle.rules.specs.Refused.{toldOutcome}
-use Rattle.rules.specs.Listing.{readingOf, recordOf}
+use Rattle.rules.specs.Listing.{readingOf, recordOf, recordStart}
 use Rattle.rules.proofs.Told.{Same, one-itself, one-outcome}
 
 pub one-reading : (bank : List ℕ) (place : ℕ) → Same toldOutcome (readingOf bank place)
 one-reading bank place = one-outcome _
 
-pub one-record : (bank : List ℕ) (place : ℕ) → Same (λ r. r) (recordOf bank place)
-one-record bank place = one-itself _
+-- What `record_at` promises of a reference into a bank: its bytes, and where it begins
+abbrev pub Handed : RefT (List ℕ) → ℕ → RefT (List ℕ) → Type 0
+Handed bank place r = (now r ≡ recordOf (now bank) place) × (ptr r ≡ (ptr bank .0, recordStart (now bank) place + ptr bank .1))
+
+-- Of a reference a program has the pointer and, by its length and through it, the bytes. Both are one; the third part of a reference here is
+-- the name by which proofs follow the bytes, which no program sees
+pub one-record : (bank : RefT (List ℕ)) (place : ℕ) (r s : RefT (List ℕ)) → Handed bank place r → Handed bank place s → (now r ≡ now s) × (ptr r ≡ ptr s)
+one-record bank place r s p q = (p .0 ∙ sym (q .0), p .1 ∙ sym (q .1))
 
 module _ (bytes : List ℕ) where
   pub one-model : Same (λ r. r) (modelOf bytes)

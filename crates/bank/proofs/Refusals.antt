@@ -11,7 +11,7 @@ use Rattle.rules.specs.Limits.{recordBytes, maxCatalogModels}
 use Rattle.rules.specs.Choice.{below, equal}
 use Rattle.rules.specs.Records.{recordsIn, recordPart}
 use Rattle.rules.specs.Refused.{Fault, Faults, fault, noFault, firstFault, toldRefusal, toldOutcome, lengthFaults}
-use Rattle.rules.specs.Listing.{readingFaults, readingOf, partUnless, recordOf}
+use Rattle.rules.specs.Listing.{readingFaults, readingOf, partUnless, recordOf, startUnless, recordStart}
 use Rattle.rules.specs.declared.refusal.Refusal.{Refusal}
 use Rattle.rules.specs.declared.refusal.Refusal.the-variants as refusal
 use Rattle.rules.specs.declared.refusal.Outcome.{Outcome}
@@ -76,11 +76,17 @@ module _ (bank : List ℕ) (place : ℕ) (o : Outcome) (told : toldOutcome o ≡
   unfolding recordOf
   answer-part e = ap (λ (fs : Faults). partUnless fs (recordPart bank place)) (answer-sound e .0)
 
--- A REFUSAL TELLS that the part handed back is empty
-none-of : (fs : Faults) (part : List ℕ) (r : Refusal) → toldRefusal r ≡ firstFault fs → [] ≡ partUnless fs part
-none-of [] part r told = absurd (refusal-number r (ap (λ (f : Fault). f .number) told))
-none-of (f ∷ fs) part r told = refl
+  -- and begins where the record does
+  pub answer-start : o ≡ outcome.Answered → recordBytes * place ≡ recordStart bank place
+  unfolding recordStart
+  answer-start e = ap (λ (fs : Faults). startUnless fs (recordBytes * place)) (answer-sound e .0)
 
-pub refusal-part : (bank : List ℕ) (place : ℕ) (o : Outcome) (r : Refusal) → toldOutcome o ≡ readingOf bank place → o ≡ outcome.Refused r → [] ≡ recordOf bank place
-unfolding readingOf recordOf
-refusal-part bank place o r told e = none-of (readingFaults bank place) (recordPart bank place) r (sym (ap toldOutcome e) ∙ told)
+-- A REFUSAL TELLS that the part handed back is empty, and begins where the bank does
+none-of : (fs : Faults) (part : List ℕ) (start : ℕ) (r : Refusal) → toldRefusal r ≡ firstFault fs → ([] ≡ partUnless fs part) × (0 ≡ startUnless fs start)
+none-of [] part start r told = absurd (refusal-number r (ap (λ (f : Fault). f .number) told))
+none-of (f ∷ fs) part start r told = (refl, refl)
+
+pub refusal-part : (bank : List ℕ) (place : ℕ) (o : Outcome) (r : Refusal) → toldOutcome o ≡ readingOf bank place → o ≡ outcome.Refused r → ([] ≡ recordOf bank place) × (0 ≡ recordStart bank place)
+unfolding readingOf recordOf recordStart
+refusal-part bank place o r told e =
+    none-of (readingFaults bank place) (recordPart bank place) (recordBytes * place) r (sym (ap toldOutcome e) ∙ told)

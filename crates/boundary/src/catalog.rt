@@ -1,5 +1,5 @@
 // Validation and trusted loading, with the policy as bytes.
-use bank::policy_of;
+use bank::unchecked::policy_of;
 use catalogue::trust;
 use catalogue::validate;
 use rules::Outcome;

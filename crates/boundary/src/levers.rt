@@ -1,7 +1,7 @@
 // The boundary calls, behind the tests of lengths and room: what is told, as an exported function hands it on, and the whole answer, in which
 // a refusal leaves no field open.
-use bank::input_of;
-use bank::policy_of;
+use bank::unchecked::input_of;
+use bank::unchecked::policy_of;
 use counterfactual::answer::refused;
 use counterfactual::decision_margin;
 use counterfactual::what_would_win;

@@ -1,6 +1,6 @@
 // The kernel's answers for what comes in as bytes, behind the tests of lengths and room.
-use bank::input_of;
-use bank::policy_of;
+use bank::unchecked::input_of;
+use bank::unchecked::policy_of;
 use explain::explain;
 use explain::next_eligible;
 use kernel::find;

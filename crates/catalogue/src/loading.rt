@@ -9,7 +9,7 @@ ghost use Rattle.rules.specs.Validate.{catalogFaults};
 ghost use Rattle.rules.specs.Trust.{reservedFaults, flagFaults, earlyFaults, orderedOf, trustOf, trustBank};
 ghost use Rattle.outset.specs.Refuse.{leading, toldLeading};
 use crate::validation::catalog_outcome;
-use bank::model_at;
+use bank::unchecked::model_at;
 use outset::refuse::bank_outcome;
 use rules::Outcome;
 use rules::PolicySnapshot;

@@ -7,7 +7,7 @@ ghost use Rattle.outset.specs.Refuse.{leading, toldLeading};
 ghost use Rattle.catalogue.specs.Ids.{earlierIds, Looked};
 use crate::ids::ids_rise;
 use crate::ids::repeat_outcome;
-use bank::model_at;
+use bank::unchecked::model_at;
 use rules::KernelModel;
 use rules::Outcome;
 use rules::Refusal;

@@ -5,7 +5,7 @@ ghost use Rattle.rules.specs.Refused.{toldOutcome};
 ghost use Rattle.rules.specs.Validate.{policyFaults, offFaults, catalogFaults, validateOf};
 ghost use Rattle.outset.specs.Refuse.{leading, toldLeading};
 use crate::records::records_outcome;
-use bank::model_at;
+use bank::unchecked::model_at;
 use outset::refuse::bank_outcome;
 use rules::Outcome;
 use rules::PolicySnapshot;

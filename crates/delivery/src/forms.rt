@@ -1,6 +1,6 @@
 // The stored form of a policy with its bank, and the request form, with policy and request as bytes.
-use bank::input_of;
-use bank::policy_of;
+use bank::unchecked::input_of;
+use bank::unchecked::policy_of;
 use endian::put64;
 use opening::refusal_word;
 use packing::input_bytes;

@@ -13,7 +13,7 @@ ghost use Rattle.outset.specs.Refuse.{leading, toldLeading};
 use crate::entry::entry_bytes;
 use crate::entry::numbers_of;
 use crate::verdict::candidate_verdict;
-use bank::model_at;
+use bank::unchecked::model_at;
 use deciding::stop::Stop;
 use deciding::stop::stopped_by;
 use outset::refuse::bank_outcome;

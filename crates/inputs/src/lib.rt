@@ -1,10 +1,11 @@
-// What the programs' input says, and what refuses it. The bank is the very part of the input in which it stands.
+// For other crates: what the programs' input says, once its fields are seen to be whole, and what refuses it. The bank is the very part of
+// the input in which it stands.
 ghost use mathlib.Core.Path.{_≡_};
 ghost use Rattle.rules.specs.Printed.{programPolicy, programBank, programRequest, programFaults};
 ghost use Rattle.outset.specs.Refuse.{leading, toldLeading};
 ghost use Rattle.inputs.specs.Formed.{Formed, formedFaults, firstRefused};
-use bank::input_of;
-use bank::policy_of;
+use bank::unchecked::input_of;
+use bank::unchecked::policy_of;
 use catalogue::validation::catalog_outcome;
 use outset::refuse::input_outcome;
 use rules::KernelInput;

@@ -1,4 +1,5 @@
-// The decision with its counts, for a caller that holds the policy and the request in their bytes.
+// For other crates: the decision with its counts, for a caller that holds the policy and the request in their bytes, and has tested their
+// lengths and the bank's.
 ghost use mathlib.Core.Path.{_≡_};
 ghost use Prim.Native.Nat.{_≤_};
 ghost use lib.ListN.{length};
@@ -8,8 +9,8 @@ ghost use Rattle.rules.specs.Refused.{answered};
 ghost use Rattle.rules.specs.Numbers.{toldTraced};
 ghost use Rattle.rules.specs.Decide.{tracedOf};
 use crate::calls::trace_of;
-use bank::input_of;
-use bank::policy_of;
+use bank::unchecked::input_of;
+use bank::unchecked::policy_of;
 use deciding::decide::decided;
 use deciding::decide::rejected;
 use deciding::stop::Stop;

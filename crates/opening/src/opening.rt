@@ -1,5 +1,5 @@
 // What a call refuses before it decides: the lengths of what comes in, the bank, the room for the answer.
-use bank::input_of;
+use bank::unchecked::input_of;
 use outset::refuse::bank_outcome;
 use outset::refuse::input_outcome;
 use rules::Outcome;

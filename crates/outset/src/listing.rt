@@ -1,4 +1,4 @@
-// The first listed record with an id.
+// For other crates: the first listed record with an id. `first_listed` asks for a bank whose length is tested.
 ghost use mathlib.Core.Path.{_≡_};
 ghost use Prim.Native.Nat.{_≤_};
 ghost use lib.ListN.{length};
@@ -8,7 +8,7 @@ ghost use Rattle.rules.specs.Refused.{answered};
 ghost use Rattle.rules.specs.Numbers.{toldFound};
 ghost use Rattle.rules.specs.Listing.{firstListed, placeOf, findOf};
 use crate::refuse::bank_outcome;
-use bank::model_at;
+use bank::unchecked::model_at;
 use rules::Found;
 use rules::Outcome;
 use rules::limits::RECORD_BYTES;

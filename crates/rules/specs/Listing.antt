@@ -1,8 +1,9 @@
 -- Document 01, "Bytes" and "Boundaries": a record read at its place, and the first listed record with an id.
-use Prim.Native.Nat.{ℕ}
+use Prim.Native.Nat.{ℕ, _*_}
 use mathlib.Core.List.{List, [], _∷_, _++_}
 use mathlib.Core.Option.{Option, none, some}
 use lib.ListN.{length}
+use Rattle.rules.specs.Limits.{recordBytes}
 use Rattle.rules.specs.Choice.{below, equal}
 use Rattle.rules.specs.Records.{Listed, listedOf, recordsIn, recordPart}
 use Rattle.rules.specs.Refused.{Fault, Faults, fault, firstFault, bankFaults, Answer, answered, unless}
@@ -22,6 +23,14 @@ partUnless (f ∷ fs) part = []
 
 unfoldable pub recordOf : List ℕ → ℕ → List ℕ
 recordOf bank place = partUnless (readingFaults bank place) (recordPart bank place)
+
+-- and where in the bank that part begins; the empty one begins where the bank does
+abbrev pub startUnless : Faults → ℕ → ℕ
+startUnless [] start = start
+startUnless (f ∷ fs) start = 0
+
+unfoldable pub recordStart : List ℕ → ℕ → ℕ
+recordStart bank place = startUnless (readingFaults bank place) (recordBytes * place)
 
 -- R1. The first listed record with an id
 abbrev pub orEarlier : ℕ → Listed → Option Listed → Option Listed

@@ -1,4 +1,4 @@
-// The scan: one loop over a part of a bank that goes on from a state.
+// For other crates: the scan, one loop over a part of a bank that goes on from a state.
 ghost use mathlib.Core.Path.{_≡_};
 ghost use lib.ListN.{length, set};
 ghost use Rattle.rules.specs.Records.{listed, listedOf, modelOf};
@@ -7,7 +7,7 @@ ghost use Rattle.ranking.specs.State.{startOf};
 ghost use Rattle.ranking.specs.Verdict.{scanOf};
 ghost use Rattle.scan.specs.Places.{placedFrom};
 ghost use Rattle.scan.specs.Scan.{Room, StandsIn};
-use bank::model_at;
+use bank::unchecked::model_at;
 use pricing::Pricing;
 use pricing::pricing_of;
 use ranking::rank::ranked;

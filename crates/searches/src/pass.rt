@@ -8,7 +8,7 @@ ghost use Rattle.rules.specs.Numbers.{toldDecision};
 ghost use Rattle.rules.specs.Levers.{selects, decisionAt, wins};
 ghost use Rattle.searches.specs.Asked.{askedOf, questionOf, Asks};
 use crate::lever::lever_at;
-use bank::model_at;
+use bank::unchecked::model_at;
 use rules::KernelDecision;
 use rules::KernelInput;
 use rules::KernelModel;

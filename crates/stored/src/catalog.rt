@@ -11,7 +11,7 @@ use crate::fields::after_front;
 use crate::fields::front_body;
 use crate::fields::lay_out;
 use crate::fields::put_field;
-use bank::policy_of;
+use bank::unchecked::policy_of;
 use outset::refuse::bank_outcome;
 use packing::policy_bytes;
 use rules::Outcome;

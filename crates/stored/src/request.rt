@@ -7,7 +7,7 @@ use crate::fields::REQUEST_TAG;
 use crate::fields::front_body;
 use crate::fields::lay_out;
 use crate::fields::put_field;
-use bank::input_of;
+use bank::unchecked::input_of;
 use packing::input_bytes;
 use rules::KernelInput;
 use rules::Outcome;

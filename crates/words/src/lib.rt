@@ -11,7 +11,7 @@ ghost use Rattle.rules.specs.Words.{nothingWords, isOff, wordsReport, askWords}
 ghost use mathlib.Core.Option.{some};
 ghost use Rattle.splice.specs.Placed.{placed};
 ghost use Rattle.printed.specs.Sizes.{wordsBytes};
-use bank::model_at;
+use bank::unchecked::model_at;
 use counterfactual::what_would_win;
 use inputs::bank_in;
 use inputs::policy_in;

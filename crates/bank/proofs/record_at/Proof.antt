@@ -1,10 +1,11 @@
--- `bank::record_at` meets its contract: an answer of `reading` puts the record within the bank, a refusal leaves nothing. Assumes nothing.
-use Prim.Native.Nat.{_+_, _*_, _≤_}
-use native.Mathlib.Nat.{add-sub-cancel-left}
+-- `bank::record_at` meets its contract: an answer of `reading` puts the record within the bank, a refusal leaves the empty part at its start.
+-- Assumes nothing.
+use Prim.Native.Nat.{ℕ, _+_, _*_, _≤_}
+use mathlib.Core.Path.{ap, _∙_}
 use native.Mathlib.Omega.{arith}
 use denote.Ref.{now}
 use lib.ListN.{length}
-use Rattle.bank.proofs.Refusals.{answer-within, answer-part, refusal-part}
+use Rattle.bank.proofs.Refusals.{answer-within, answer-part, answer-start, refusal-part}
 use borrow.Author.Needs.{needs}
 use Rattle.bank.proofs.record_at.Statement.{statement}
 use Rattle.bank.proofs.record_at.Tie as tie
@@ -13,13 +14,21 @@ use Rattle.bank.proofs.record_at.Tie as tie
 fits : (c : tie.After-enum-told) → 47 * c .before .before .before .before .args .place + 47 ≤ length (now (c .before .before .before .before .args .bank))
 fits c = answer-within _ _ (c .before .before .reading .result) (c .before .before .reading .ensures) (c .enum-told .given .1)
 
+-- so far beyond a pointer
+abbrev beyond : ℕ × ℕ → ℕ → ℕ × ℕ
+beyond p n = (p .0, n + p .1)
+
 returns : tie.Need-returns
 returns c =
-    rw add-sub-cancel-left (answer-part _ _ (c .before .before .before .reading .result) (c .before .before .before .reading .ensures) (c .before .enum-told .given .1))
+    let read = c .before .before .before .reading in
+    let told = c .before .enum-told .given .1 in
+    let at = c .part .ensures in
+    (at .0 ∙ answer-part _ _ (read .result) (read .ensures) told, at .1 ∙ ap (beyond _) (answer-start _ _ (read .result) (read .ensures) told))
 
 returns-2 : tie.Need-returns-2
 returns-2 c =
-    refusal-part _ _ _ _ (c .before .before .before .reading .ensures) (c .before .enum-told2 .given .1)
+    let empty = refusal-part _ _ _ _ (c .before .before .before .reading .ensures) (c .before .enum-told2 .given .1) in
+    (c .part2 .ensures .0 ∙ empty .0, c .part2 .ensures .1 ∙ ap (beyond _) (empty .1))
 
 pub record-at-spec : {M : Type 1} → statement M
 record-at-spec =
@@ -28,11 +37,8 @@ record-at-spec =
     (λ c κs. search needs)
     (λ c. search needs)
     (λ c. omega (arith, fits c))
-    (λ c. omega (arith, fits c))
+    (λ c κs. omega (arith, fits c))
     (λ c. search needs)
-    (λ c. search needs)
-    (λ c. fits c)
-    (λ c. search needs)
-    (λ c. search needs)
+    (λ c κs. search needs)
     returns
     returns-2)

@@ -1,8 +1,8 @@
--- `bank::model_at` meets its contract: the part lent is the record's. Assumes nothing.
+-- `bank::unchecked::model_at` meets its contract: the part lent is the record's. Assumes nothing.
 use native.Mathlib.Nat.{add-sub-cancel-left}
 use borrow.Author.Needs.{needs}
-use Rattle.bank.proofs.model_at.Statement.{statement}
-use Rattle.bank.proofs.model_at.Tie as tie
+use Rattle.bank.proofs.unchecked.model_at.Statement.{statement}
+use Rattle.bank.proofs.unchecked.model_at.Tie as tie
 
 pub model-at-spec : {M : Type 1} → statement M
 model-at-spec =

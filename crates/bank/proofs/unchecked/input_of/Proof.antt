@@ -1,12 +1,12 @@
--- `bank::input_of` meets its contract: each field is what its reading ensures. Assumes nothing.
+-- `bank::unchecked::input_of` meets its contract: each field is what its reading ensures. Assumes nothing.
 use mathlib.Core.Path.{ap, _∙_}
 use mir.Syntax.{w64}
 use mir.Val.{toZ}
 use mir.ValLaws.{toZ-ofZ}
 use Rattle.rules.specs.Records.{inputOf}
 use borrow.Author.Needs.{needs}
-use Rattle.bank.proofs.input_of.Statement.{statement}
-use Rattle.bank.proofs.input_of.Tie as tie
+use Rattle.bank.proofs.unchecked.input_of.Statement.{statement}
+use Rattle.bank.proofs.unchecked.input_of.Tie as tie
 
 returns : tie.Need-returns
 unfolding inputOf

@@ -1,8 +1,8 @@
--- `bank::policy_of` meets its contract: each field is what its reading ensures. Assumes nothing.
+-- `bank::unchecked::policy_of` meets its contract: each field is what its reading ensures. Assumes nothing.
 use Rattle.rules.specs.Records.{policyOf}
 use borrow.Author.Needs.{needs}
-use Rattle.bank.proofs.policy_of.Statement.{statement}
-use Rattle.bank.proofs.policy_of.Tie as tie
+use Rattle.bank.proofs.unchecked.policy_of.Statement.{statement}
+use Rattle.bank.proofs.unchecked.policy_of.Tie as tie
 
 returns : tie.Need-returns
 unfolding policyOf

@@ -1,11 +1,11 @@
--- `bank::model_of` meets its contract: each field is what its reading ensures. Assumes nothing.
+-- `bank::unchecked::model_of` meets its contract: each field is what its reading ensures. Assumes nothing.
 use native.Mathlib.Omega.{arith}
 use denote.Ref.{now}
 use Rattle.rules.specs.Records.{modelOf}
 use Rattle.endian.proofs.Spelled.{byte-at}
 use borrow.Author.Needs.{needs}
-use Rattle.bank.proofs.model_of.Statement.{statement}
-use Rattle.bank.proofs.model_of.Tie as tie
+use Rattle.bank.proofs.unchecked.model_of.Statement.{statement}
+use Rattle.bank.proofs.unchecked.model_of.Tie as tie
 
 returns : tie.Need-returns
 unfolding modelOf
