@@ -1,5 +1,5 @@
-// What stands behind the exported functions that decide, and that explain, check and bound a decision: each call behind its tests, with policy
-// and request as bytes.
+// For the library: what stands behind the exported functions that decide, and that explain, check and bound a decision. Each call stands behind
+// its tests, with policy and request as bytes.
 pub mod catalog;
 pub mod levers;
 pub mod within;

@@ -1,5 +1,5 @@
-// What the exported functions hand over besides decisions and texts: a record's offset, stored and request forms. Each function takes the very
-// slices of an exported one and answers its word: 0, or the refusal's.
+// For the library: what the exported functions hand over besides decisions and texts, a record's offset, stored and request forms. Each function
+// takes the very slices of an exported one and answers its word: 0, or the refusal's.
 pub mod forms;
 pub mod offset;
 

@@ -1,4 +1,5 @@
-// Numbers in bytes, the lowest byte first: read at a position of a slice, and written there. Signed numbers are in two's complement.
+// For other crates: numbers in bytes, the lowest byte first, read at a position of a slice, and written there. The position must leave
+// room. Signed numbers are in two's complement.
 ghost use mathlib.Core.Path.{_≡_};
 ghost use Prim.Native.Nat.{_+_, _≤_};
 ghost use mathlib.Core.List.{[], _∷_};

@@ -1,4 +1,4 @@
-// The eight gates that a model meets, what a failed one measured, and the count that it raises.
+// For other crates: the eight gates that a model meets, what a failed one measured, and the count that it raises, which must have room.
 // A gate is its number, 1 to 8, in the order of document 01; 0 stands for none.
 ghost use mathlib.Core.Path.{_≡_};
 ghost use Prim.Native.Nat.{_+_, _-_, _%_, _^_, _<_, _≤_};

@@ -1,8 +1,7 @@
-// The calls that decide over a lent bank. Those passed on here ask nothing of their caller; what stands in a module alone is for other
-// crates.
-pub mod calls;
+// The calls that decide over a lent bank. Those passed on here ask nothing of their caller; `lent` is for other crates.
+mod calls;
 pub mod lent;
-pub mod single;
+mod single;
 
 pub use calls::prescribe;
 pub use calls::prescribe_checked;

@@ -1,4 +1,5 @@
-// Answers in bytes: a decision, alone or with its counts, and what the boundary calls tell. Nothing here asks anything of its caller.
+// For the library: answers in bytes, a decision, alone or with its counts, and what the boundary calls tell. Nothing here asks anything of its
+// caller.
 pub mod boundaries;
 pub mod decision;
 

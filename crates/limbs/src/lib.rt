@@ -1,5 +1,5 @@
-// Arithmetic on numbers of two limbs, where the Rust computes in u128 and i128. A contract speaks of what the numbers
-// stand for (`val`, and `valZ` with a sign): how limbs carry and borrow concerns nobody outside this file.
+// For other crates: arithmetic on numbers of two limbs, where the Rust computes in u128 and i128. A contract speaks of what the
+// numbers stand for (`val`, and `valZ` with a sign): how limbs carry and borrow concerns nobody outside this file.
 ghost use mathlib.Core.Path.{_≡_};
 ghost use Prim.Native.Nat.{min, _+_, _-_, _*_, _/_, _^_, _<_, _≤_};
 ghost use lib.Dec.{ltb};

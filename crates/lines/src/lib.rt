@@ -1,4 +1,4 @@
-// The lines of a report, each put into a buffer from a position on.
+// For other crates: the lines of a report, each put into a buffer from a position on, which must leave room.
 ghost use mathlib.Core.Path.{_≡_};
 ghost use mathlib.Core.List.{map};
 ghost use Prim.Native.Nat.{_+_, _≤_};

@@ -1,5 +1,5 @@
-// What opens an exported function: the tests of lengths, bank and room that come before it decides or hands over anything, and a refusal as one
-// word.
+// For other crates: what opens an exported function, the tests of lengths, bank and room that come before it decides or hands over anything,
+// and a refusal as one word.
 pub mod opening;
 pub mod word;
 

@@ -1,4 +1,4 @@
-// What a call refuses before it decides: the bank's length, then the request's fields.
+// For other crates: what a call refuses before it decides, the bank's length, then the request's fields.
 ghost use mathlib.Core.Path.{_≡_};
 ghost use mathlib.Core.List.{_++_};
 ghost use Rattle.rules.specs.Refused.{lengthFaults, toldOutcome};

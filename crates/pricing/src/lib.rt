@@ -1,5 +1,5 @@
-// What a model costs for a request, and what it is worth. Numbers that fit 64 bits take the short way, decided by a test
-// on the numbers alone; all others go by two limbs, in functions of their own. A utility is carried as its score, 2^63
+// For other crates: what a model costs for a request, and what it is worth. Numbers that fit 64 bits take the short way, decided
+// by a test on the numbers alone; all others go by two limbs, in functions of their own. A utility is carried as its score, 2^63
 // higher, so that to hold it within i64 is to stop at 0 and at the highest u64, and to compare two is u64's order.
 mod price;
 mod settle;

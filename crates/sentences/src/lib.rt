@@ -1,4 +1,4 @@
-// Sentences, each put into a buffer from a position on. None has more than 200 bytes.
+// For other crates: sentences, each put into a buffer from a position on, which must leave room. None has more than 200 bytes.
 ghost use mathlib.Core.Path.{_≡_};
 ghost use mathlib.Core.List.{map, _++_};
 ghost use Prim.Native.Nat.{_+_, _-_, _%_, _≤_};

@@ -1,4 +1,4 @@
-// Bytes written into a lent buffer at a position.
+// For other crates: bytes written into a lent buffer at a position, which must leave room for them.
 ghost use mathlib.Core.Path.{_≡_};
 ghost use Prim.Native.Nat.{_+_, _≤_};
 ghost use lib.ListN.{length};

@@ -1,4 +1,5 @@
-// Fields: a tag in one byte, the length of the body in two, the body. A field is read at the front of some bytes.
+// For other crates: fields, each a tag in one byte, the length of the body in two, the body. A field is read at the front of some bytes, once it
+// is seen to be whole there.
 ghost use mathlib.Core.Path.{_≡_};
 ghost use Prim.Native.Nat.{_+_, _≤_};
 ghost use lib.ListN.{length};

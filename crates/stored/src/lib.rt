@@ -1,7 +1,8 @@
-// The stored form of a policy with its bank, and the request form: read from bytes, and written to a lent buffer.
-pub mod catalog;
+// The stored form of a policy with its bank, and the request form: read from bytes, and written to a lent buffer. Those passed on here ask
+// nothing of their caller; `fields` is for other crates.
+mod catalog;
 pub mod fields;
-pub mod request;
+mod request;
 
 pub use catalog::read_stored;
 pub use catalog::write_stored;

@@ -1,5 +1,6 @@
-// Numbers and lines put into a lent buffer one after the other: each function takes a position and answers the next one. The text of an i64
-// has at most 20 bytes, as that of a u64, so that a caller can tell from the count of its numbers that a buffer suffices.
+// For other crates: numbers and lines put into a lent buffer one after the other. Each function takes a position, which must leave room,
+// and answers the next one. The text of an i64 has at most 20 bytes, as that of a u64, so that a caller can tell from the count of its
+// numbers that a buffer suffices.
 ghost use mathlib.Core.Path.{_≡_};
 ghost use mathlib.Core.List.{[], _∷_, map};
 ghost use Prim.Native.Nat.{_+_, _*_, _≤_, _<_};
