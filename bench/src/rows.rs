@@ -91,7 +91,7 @@ impl Asked {
             assert_eq!(owed.refusal, None, "{}: a row's questions are answered", CALLS[call].name);
             assert!(
                 ours(self.question(at)) == Answered::of(&owed),
-                "{} differs from the Rust on:\n{case}",
+                "{} isn't answered as owed on:\n{case}",
                 CALLS[call].name
             );
         }
@@ -205,7 +205,7 @@ fn trust(order: &str, visit: &mut dyn FnMut(Row)) {
     let (policy, bank) = (policy_bytes(&setting.policy), bank_bytes(&setting.models));
     let mut lent = bank.clone();
     let owed = CALLS[TRUST].owed(&CALLS[TRUST].ask(&setting.case(0)));
-    assert!(library::trust(&policy, &mut lent) == owed.word() && lent == owed.bank, "trust differs from the Rust");
+    assert!(library::trust(&policy, &mut lent) == owed.word() && lent == owed.bank, "trust isn't answered as owed");
     let ours = Box::new(|| {
         lent.copy_from_slice(&bank);
         black_box(library::trust(&policy, &mut lent));

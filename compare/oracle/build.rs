@@ -4,7 +4,8 @@ use std::{env, fs};
 
 fn main() {
     println!("cargo:rerun-if-env-changed=VOLANKIZO_RUST");
-    let folder = env::var("VOLANKIZO_RUST").expect("VOLANKIZO_RUST names the folder with kernel.rs and counterfactual.rs");
+    let folder =
+        env::var("VOLANKIZO_RUST").expect("VOLANKIZO_RUST names the folder with kernel.rs and counterfactual.rs");
     let folder = fs::canonicalize(&folder).unwrap_or_else(|e| panic!("{folder}: {e}"));
     let mut modules = String::new();
     for name in ["kernel", "counterfactual"] {

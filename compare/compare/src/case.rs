@@ -1,7 +1,8 @@
 //! An input on which every call can be asked.
-use crate::calls::By;
+use crate::calls::Answer;
 use crate::form::{form_bytes, Damage};
-use std::cell::OnceCell;
+use crate::second::rules::Rules;
+use std::cell::{Cell, OnceCell};
 use std::fmt;
 
 /// How much room a buffer has, against what is needed.
@@ -40,6 +41,8 @@ pub enum Formed {
 /// The bytes and numbers of one input. Lengths may be wrong: they are compared too.
 #[derive(Clone, Debug)]
 pub struct Case {
+    /// By which the library owes its answer.
+    pub rules: Rules,
     pub policy: Vec<u8>,
     pub request: Vec<u8>,
     pub bank: Vec<u8>,
@@ -55,7 +58,9 @@ pub struct Case {
 }
 
 /// A case as one call sees it: with its own form, and the room of its own buffers in bytes.
+#[derive(Clone)]
 pub struct Ask<'a> {
+    pub rules: Rules,
     pub policy: &'a [u8],
     pub request: &'a [u8],
     pub bank: &'a [u8],
@@ -65,14 +70,17 @@ pub struct Ask<'a> {
     pub listed: &'a Listed,
     pub place: u64,
     pub form: Vec<u8>,
-    /// What is printed, once it is known: it says how much room is needed, and is the answer.
-    pub text: OnceCell<(By, Vec<u8>)>,
+    /// What the second reading answers, once it is known: of what is printed it says how much room is needed.
+    pub read: OnceCell<Answer>,
+    /// The passes that the second reading counted in its last search.
+    pub passes: Cell<u64>,
 }
 
 impl Case {
     /// The case for a call whose form has these tags, before the rooms are known.
     pub fn ask(&self, tags: &[u8]) -> Ask<'_> {
         Ask {
+            rules: self.rules,
             policy: &self.policy,
             request: &self.request,
             bank: &self.bank,
@@ -82,7 +90,8 @@ impl Case {
             listed: &self.listed,
             place: self.place,
             form: self.form(tags),
-            text: OnceCell::new(),
+            read: OnceCell::new(),
+            passes: Cell::new(0),
         }
     }
 
@@ -95,9 +104,19 @@ impl Case {
     }
 }
 
+impl Ask<'_> {
+    /// The same by other rules.
+    pub fn by(&self, rules: Rules) -> Self {
+        Ask { rules, read: OnceCell::new(), ..self.clone() }
+    }
+}
+
 /// The case whole, in hexadecimal, so that it can be asked again anywhere.
 impl fmt::Display for Case {
     fn fmt(&self, f: &mut fmt::Formatter<'_>) -> fmt::Result {
+        if self.rules != Rules::RUST {
+            writeln!(f, "by      {:?}", self.rules)?;
+        }
         writeln!(f, "policy  ({} bytes) {}", self.policy.len(), hex(&self.policy))?;
         writeln!(f, "request ({} bytes) {}", self.request.len(), hex(&self.request))?;
         writeln!(f, "bank    ({} bytes) {}", self.bank.len(), hex(&self.bank))?;

@@ -3,9 +3,11 @@ use crate::calls::{Answer, Call, ASK, CALLS, EXPLAIN, MARGIN, NEXT, PRESCRIBE, T
 use crate::case::Case;
 use crate::second::boundaries::passes_and_levers;
 use crate::second::bytes::{models_of, policy_of, request_of, RECORD_BYTES};
+use crate::second::deciding::{explain, Explained, Question, Verdict};
 use crate::second::explanation::{EXPLANATION_BYTES, NO_MORE};
+use crate::second::price::Terms;
 use crate::second::printed::LENGTH_BYTES;
-use oracle::kernel::{CandidateVerdict, Explanation, KernelModel, UtilityTerms};
+use oracle::kernel::KernelModel;
 use std::cmp::Reverse;
 use std::collections::{BTreeMap, BTreeSet};
 use std::fmt;
@@ -109,13 +111,14 @@ impl Figures {
     }
 
     fn note_records(&mut self, case: &Case) {
-        let models = models_of(&case.bank);
-        let explanation = policy_of(&case.policy).with(models.clone()).explain(request_of(&case.request));
-        if let Some(key) = deciding_key(&models, &explanation) {
+        let (policy, request, models) = (policy_of(&case.policy), request_of(&case.request), models_of(&case.bank));
+        let question = Question { rules: case.rules, policy, request, models };
+        let explained = explain(&question);
+        if let Some(key) = deciding_key(&question.models, &explained) {
             self.see(format!("first before second by {key}"));
         }
         for (name, holds) in EXTREMES {
-            if explanation.candidates.iter().filter_map(|c| terms(&c.verdict)).any(|t| holds(&t)) {
+            if explained.iter().filter_map(|it| terms(&it.verdict)).any(|t| holds(&t)) {
                 self.see(format!("some {name}"));
             }
         }
@@ -149,32 +152,33 @@ pub const COUNTS: [&str; 9] =
 /// The keys of the ranking, in their order.
 pub const KEYS: [&str; 5] = ["1 utility", "2 cost", "3 quality", "4 id", "5 place"];
 
-pub type Extreme = (&'static str, fn(&UtilityTerms) -> bool);
+pub type Extreme = (&'static str, fn(&Terms) -> bool);
 
 /// Where 64 bits don't suffice, or a number is held at its limit.
 pub const EXTREMES: [Extreme; 7] = [
-    ("quality term of 2^64 or more", |t| t.quality_adjusted >> 64 != 0),
-    ("risk term of 2^64 or more", |t| t.risk_penalty >> 64 != 0),
-    ("latency term of 2^64 or more", |t| t.latency_penalty >> 64 != 0),
-    ("cost of 2^64 - 1", |t| t.cost_microunits == u64::MAX),
+    ("quality term of 2^64 or more", |t| t.quality >> 64 != 0),
+    ("risk term of 2^64 or more", |t| t.risk >> 64 != 0),
+    ("latency term of 2^64 or more", |t| t.latency >> 64 != 0),
+    ("cost of 2^64 - 1", |t| t.cost == u64::MAX),
     ("utility of 2^63 - 1", |t| t.utility == i64::MAX),
     ("utility of 0", |t| t.utility == 0),
     ("utility of -2^63", |t| t.utility == i64::MIN),
 ];
 
-fn terms(verdict: &CandidateVerdict) -> Option<UtilityTerms> {
+fn terms(verdict: &Verdict) -> Option<Terms> {
     match verdict {
-        CandidateVerdict::Eligible(terms) | CandidateVerdict::NonPositiveUtility(terms) => Some(*terms),
+        Verdict::Eligible(terms) | Verdict::NonPositive(terms) => Some(*terms),
         _ => None,
     }
 }
 
 /// The key by which the best eligible record stands before the second: the first in which the two differ.
-fn deciding_key(models: &[KernelModel], explanation: &Explanation) -> Option<&'static str> {
-    let mut ranked: Vec<_> = explanation
-        .eligible()
-        .filter_map(|c| terms(&c.verdict).map(|t| (t, models[usize::from(c.model_index)])))
-        .map(|(t, m)| (Reverse(t.utility), t.cost_microunits, Reverse(m.quality_bps), m.model_id))
+fn deciding_key(models: &[KernelModel], explained: &[Explained]) -> Option<&'static str> {
+    let mut ranked: Vec<_> = explained
+        .iter()
+        .filter(|it| matches!(it.verdict, Verdict::Eligible(_)))
+        .filter_map(|it| terms(&it.verdict).map(|t| (t, models[usize::from(it.place)])))
+        .map(|(t, m)| (Reverse(t.utility), t.cost, Reverse(m.quality_bps), m.model_id))
         .collect();
     ranked.sort();
     let (first, second) = (ranked.first()?, ranked.get(1)?);

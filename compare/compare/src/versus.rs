@@ -173,8 +173,8 @@ fn told(word: u64) -> String {
 /// A large bank may take minutes to reduce; the difference is shown either way.
 const MOST_TRIES: usize = 2_000;
 
-/// The case with as many records left out as can be while the two still differ.
-pub fn reduced(library: &mut Library, call: usize, case: &Case) -> Case {
+/// The case with as many records left out as can be while it still differs.
+pub fn reduced(case: &Case, mut differs: impl FnMut(&Case) -> bool) -> Case {
     let mut small = case.clone();
     let mut step = (case.bank.len() / RECORD_BYTES).div_ceil(2);
     let mut tries = 0;
@@ -184,7 +184,7 @@ pub fn reduced(library: &mut Library, call: usize, case: &Case) -> Case {
             tries += 1;
             let mut trial = small.clone();
             trial.bank.drain(at..small.bank.len().min(at + step * RECORD_BYTES));
-            if differs(library, call, &trial).is_some() {
+            if differs(&trial) {
                 small = trial;
             } else {
                 at += step * RECORD_BYTES;

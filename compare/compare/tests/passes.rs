@@ -4,7 +4,9 @@ use compare::calls::{MARGIN, WIN};
 use compare::case::Case;
 use compare::generate::{Asked, DRAWS, SPACES};
 use compare::second::bytes::{models_of, policy_of, request_of, RECORD_BYTES};
+use compare::second::deciding::Question;
 use compare::second::refusals::{bank, field_lengths};
+use compare::second::rules::Rules;
 use compare::second::search;
 use oracle::counterfactual;
 use oracle::kernel::KernelModel;
@@ -53,11 +55,13 @@ fn check(case: &Case) -> u64 {
     }
     let (policy, request, models) = (policy_of(&case.policy), request_of(&case.request), models_of(&case.bank));
     let snapshot = policy.with(models.clone());
-    let (won, copies) = copies_of(models.len(), || counterfactual::what_would_win(&snapshot, request, case.id));
-    let counted = search::what_would_win(&policy, request, &models, case.id);
+    let question = Question { rules: Rules::RUST, policy, request, models };
+    let records = question.models.len();
+    let (won, copies) = copies_of(records, || counterfactual::what_would_win(&snapshot, request, case.id));
+    let counted = search::what_would_win(&question, case.id);
     assert_eq!(won.map(|_| copies + 1), counted.map(|counted| counted.passes), "{case}");
-    let (margin, copies) = copies_of(models.len(), || counterfactual::decision_margin(&snapshot, request));
-    let counted = search::decision_margin(&policy, request, &models);
+    let (margin, copies) = copies_of(records, || counterfactual::decision_margin(&snapshot, request));
+    let counted = search::decision_margin(&question);
     assert_eq!(margin.map(|_| copies + 1), counted.map(|counted| counted.passes), "{case}");
     2
 }

@@ -1,7 +1,7 @@
 //! `compare [--short] [--seed N] [--count N] [--from N] -- PROGRAM [WORD..]`: every call on the cases of the small spaces and on random ones,
 //! so many decisions as `count` says and the other sets by their share of it; the library against the Rust and the second reading. PROGRAM
 //! calls the library (`answer/answer.c`), with the emulator before it where one is needed. Ends with 1 at the first difference.
-use compare::calls::{CALLS, CHECKED, EXPLAIN, MARGIN, PRESCRIBE, WIN};
+use compare::calls::{Disagreement, CALLS, CHECKED, EXPLAIN, MARGIN, PRESCRIBE, WIN};
 use compare::case::Case;
 use compare::figures::{Figures, Table, SEARCHED};
 use compare::generate::{Asked, Space, DRAWS, SPACES};
@@ -127,7 +127,7 @@ impl Run {
         let named = Rc::new(Named { case, name });
         for (at, call) in CALLS.iter().enumerate().filter(|(at, _)| asked.asks(*at, &named.case)) {
             let ask = call.ask(&named.case);
-            let owed = call.owed(&ask);
+            let owed = call.judged(&ask).unwrap_or_else(|apart| end_apart(at, &named, &apart));
             figures.note(at, &named.case, &owed);
             self.calls += 1;
             let found = self.batch.put(&mut self.library, Owing::new(at, &named, &ask, &owed));
@@ -170,15 +170,30 @@ impl Run {
     }
 }
 
+/// The library's answer isn't the one owed.
 fn show(library: &mut Library, owing: &Owing, difference: &Difference) {
     let (call, Named { case, name }) = (owing.call, &*owing.named);
     println!("DIFFERENCE in {}, {name}\n{case}\n{difference}", CALLS[call].name);
-    let small = reduced(library, call, case);
+    let small = reduced(case, |trial| differs(library, call, trial).is_some());
     if small.bank.len() < case.bank.len() {
         let difference = differs(library, call, &small).expect("reduced while it differs");
         println!("the same call on fewer records:\n{small}\n{difference}");
     }
     show_fields(&small);
+}
+
+/// The Rust and the second reading part, so that nobody can say what is owed.
+fn end_apart(call: usize, named: &Named, apart: &Disagreement) -> ! {
+    let (call, Named { case, name }) = (&CALLS[call], named);
+    println!("DIFFERENCE between the Rust and the second reading in {}, {name}\n{case}\n{apart}", call.name);
+    let parted = |case: &Case| call.judged(&call.ask(case)).err();
+    let small = reduced(case, |trial| parted(trial).is_some());
+    if small.bank.len() < case.bank.len() {
+        let apart = parted(&small).expect("reduced while they part");
+        println!("the same call on fewer records:\n{small}\n{apart}");
+    }
+    show_fields(&small);
+    exit(1)
 }
 
 /// The inputs read as fields, where their lengths allow it and they aren't too many to look at.

@@ -1,20 +1,36 @@
-//! `ask_text`: what `ask ID` prints. Decision and levers are the Rust's, passes and text the second reading's.
-use super::program::{self, boundaries, Program, Refused};
-use super::{Call, Handed, PLAIN};
+//! `ask_text`: what `ask ID` prints.
+use super::program;
+use super::{Answer, Call, Handed, PLAIN};
+use crate::case::Ask;
+use crate::judges::Judge;
+use crate::second::deciding::Question;
 use crate::second::forms::PROGRAM_INPUT;
 use crate::second::printed::ask_lines;
+use crate::second::refusals::{Passed, Refusal};
 
 pub const CALL: Call = Call {
     name: "ask_text",
     takes: &[Handed::Form, Handed::Id, Handed::Out],
     tags: PROGRAM_INPUT,
     many_passes: true,
-    need: |ask| program::need(ask, report),
-    second: |ask| program::second(ask, report),
-    answer: |ask| program::answer(ask, report),
+    need,
+    second,
+    answer,
     ..PLAIN
 };
 
-fn report(program: &Program, id: u32) -> Result<String, Refused> {
-    boundaries(program, id).map(|found| ask_lines(&found))
+fn need(ask: &Ask) -> usize {
+    program::need(&CALL, ask)
+}
+
+fn second(ask: &Ask) -> Passed {
+    program::second(&CALL, ask)
+}
+
+fn answer(ask: &Ask, judge: &dyn Judge) -> Answer {
+    program::answer(ask, judge, report)
+}
+
+fn report(judge: &dyn Judge, question: &Question, id: u32) -> Result<String, Refusal> {
+    program::boundaries(judge, question, id).map(|found| ask_lines(&found))
 }

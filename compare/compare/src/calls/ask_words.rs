@@ -1,7 +1,11 @@
-//! `ask_words`: what `ask ID words` prints. What is told is the Rust's, the sentences the second reading's.
-use super::program::{self, boundaries, Program, Refused};
-use super::{Call, Handed, PLAIN};
+//! `ask_words`: what `ask ID words` prints.
+use super::program;
+use super::{Answer, Call, Handed, PLAIN};
+use crate::case::Ask;
+use crate::judges::Judge;
+use crate::second::deciding::Question;
 use crate::second::forms::PROGRAM_INPUT;
+use crate::second::refusals::{Passed, Refusal};
 use crate::second::words::ask_words;
 
 pub const CALL: Call = Call {
@@ -9,15 +13,27 @@ pub const CALL: Call = Call {
     takes: &[Handed::Form, Handed::Id, Handed::Out],
     tags: PROGRAM_INPUT,
     many_passes: true,
-    need: |ask| program::need(ask, report),
-    second: |ask| program::second(ask, report),
-    answer: |ask| program::answer(ask, report),
+    need,
+    second,
+    answer,
     ..PLAIN
 };
 
-fn report(program: &Program, id: u32) -> Result<String, Refused> {
-    let found = boundaries(program, id)?;
-    let listed = program.snapshot.models().iter().find(|model| model.model_id == id);
+fn need(ask: &Ask) -> usize {
+    program::need(&CALL, ask)
+}
+
+fn second(ask: &Ask) -> Passed {
+    program::second(&CALL, ask)
+}
+
+fn answer(ask: &Ask, judge: &dyn Judge) -> Answer {
+    program::answer(ask, judge, report)
+}
+
+fn report(judge: &dyn Judge, question: &Question, id: u32) -> Result<String, Refusal> {
+    let found = program::boundaries(judge, question, id)?;
+    let listed = question.models.iter().find(|model| model.model_id == id);
     let off = listed.is_some_and(|model| model.enabled == 0);
     Ok(ask_words(id, off, &found))
 }

@@ -1,10 +1,11 @@
 //! `explain`: the decision, and a record for each model.
-use super::{snapshot, Answer, Call, Handed, PLAIN};
+use super::{question, Answer, Call, Handed, PLAIN};
 use crate::case::Ask;
-use crate::second::bytes::{decision_bytes, request_of, DECISION_BYTES, RECORD_BYTES};
+use crate::judges::Judge;
+use crate::second::bytes::{decision_bytes, DECISION_BYTES, RECORD_BYTES};
+use crate::second::deciding::is_stopped;
 use crate::second::explanation::{explanation_bytes, EXPLANATION_BYTES};
-use crate::second::refusals::{self, Passed, Refusal};
-use oracle::kernel::Explanation;
+use crate::second::refusals::{self, Passed};
 
 pub const CALL: Call = Call {
     name: "explain",
@@ -12,7 +13,7 @@ pub const CALL: Call = Call {
     need,
     list_need,
     second,
-    answer: rust,
+    answer,
     ..PLAIN
 };
 
@@ -25,22 +26,15 @@ fn list_need(ask: &Ask) -> usize {
     ask.bank.len() / RECORD_BYTES * EXPLANATION_BYTES
 }
 
-/// 22, 1, 2, 4 for the buffer; then 4 for the list, by the Rust's records: there are none where the request is stopped.
+/// 22, 1, 2, 4 for the buffer, then 4 for the list: no record goes there where the request is stopped.
 fn second(ask: &Ask) -> Passed {
     refusals::field_lengths(ask.policy, ask.request)?;
     refusals::bank(ask.bank)?;
-    refusals::room(ask.room, DECISION_BYTES)
+    refusals::room(ask.room, DECISION_BYTES)?;
+    refusals::room(ask.list_room, if is_stopped(&question(ask)) { 0 } else { list_need(ask) })
 }
 
-fn rust(ask: &Ask) -> Answer {
-    let explanation = explanation(ask);
-    let list = explanation_bytes(&explanation);
-    if ask.list_room < list.len() {
-        return Answer::from(Refusal::of(refusals::NO_ROOM)).second();
-    }
-    Answer { list, ..Answer::of(decision_bytes(&explanation.decision)) }
-}
-
-pub(super) fn explanation(ask: &Ask) -> Explanation {
-    snapshot(ask).explain(request_of(ask.request))
+fn answer(ask: &Ask, judge: &dyn Judge) -> Answer {
+    let (decision, explained) = judge.explanation(&question(ask));
+    Answer { list: explanation_bytes(&explained), ..Answer::of(decision_bytes(&decision)) }
 }

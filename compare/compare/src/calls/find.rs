@@ -1,11 +1,12 @@
 //! `find`: the place of the first listed record with an id.
 use super::{Answer, Call, Handed, PLAIN};
 use crate::case::Ask;
+use crate::judges::Judge;
 use crate::second::bytes::{first_listed, PLACE_BYTES};
 use crate::second::refusals::{self, Passed};
 
 pub const CALL: Call =
-    Call { name: "find", takes: &[Handed::Bank, Handed::Id, Handed::Out], need, second, answer: reading, ..PLAIN };
+    Call { name: "find", takes: &[Handed::Bank, Handed::Id, Handed::Out], need, second, answer, ..PLAIN };
 
 fn need(_: &Ask) -> usize {
     PLACE_BYTES
@@ -18,6 +19,6 @@ fn second(ask: &Ask) -> Passed {
 }
 
 /// The Rust has no call for this, and takes the first listed record wherever it looks an id up.
-fn reading(ask: &Ask) -> Answer {
+fn answer(ask: &Ask, _: &dyn Judge) -> Answer {
     Answer::of(first_listed(ask.bank, ask.id).to_le_bytes().to_vec()).second()
 }

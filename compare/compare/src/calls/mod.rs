@@ -1,9 +1,12 @@
 //! A module for each exported function. A new call is a module with the same parts, a line in `CALLS` below and one in the table of
 //! `answer/answer.c`.
-use crate::case::{Ask, Case};
-use crate::second::bytes::{models_of, policy_of};
+use crate::case::{hex, Ask, Case};
+use crate::judges::{Judge, Reading, TheRust};
+use crate::second::bytes::{models_of, policy_of, request_of};
+use crate::second::deciding::Question;
 use crate::second::refusals::{Passed, Refusal};
-use oracle::kernel::PolicySnapshot;
+use crate::second::rules::Rules;
+use std::fmt;
 
 pub mod ask_text;
 pub mod ask_words;
@@ -29,12 +32,12 @@ pub mod write_stored;
 /// Who says what is owed.
 #[derive(Clone, Copy, Debug, Default, PartialEq, Eq)]
 pub enum By {
-    /// The Rust, told in document 01's bytes and numbers.
+    /// The Rust, told in document 01's bytes and numbers; the second reading agrees.
     #[default]
     Rust,
-    /// The second reading: the Rust has no such call, or no say in this refusal.
+    /// The second reading alone: the Rust has no such call, no say in this refusal, or another answer by a rule that is named.
     Second,
-    /// Both: the Rust decides, and the second reading says what is printed of it.
+    /// Both: the Rust decides and the second reading agrees, which also says what is printed of it.
     Printed,
 }
 
@@ -54,6 +57,11 @@ impl Answer {
         Answer { out, ..Answer::default() }
     }
 
+    /// What is owed by a call that writes nothing of its own.
+    pub fn passed(passed: Passed) -> Self {
+        Answer { refusal: passed.err(), ..Answer::default() }
+    }
+
     /// The same answer, by the second reading.
     pub fn second(self) -> Self {
         Answer { by: By::Second, ..self }
@@ -69,6 +77,31 @@ impl Answer {
 impl From<Refusal> for Answer {
     fn from(refusal: Refusal) -> Self {
         Answer { refusal: Some(refusal), ..Answer::default() }
+    }
+}
+
+impl fmt::Display for Answer {
+    fn fmt(&self, f: &mut fmt::Formatter<'_>) -> fmt::Result {
+        match self.refusal {
+            Some(refusal) => write!(f, "{refusal:?}")?,
+            None => write!(f, "answered")?,
+        }
+        let parts = [("out", &self.out), ("list", &self.list), ("bank", &self.bank)];
+        let mut written = parts.iter().filter(|(_, bytes)| !bytes.is_empty());
+        written.try_for_each(|(name, bytes)| write!(f, " {name} {}", hex(bytes)))
+    }
+}
+
+/// The Rust and the second reading part where no rule is named by which they may.
+#[derive(Debug)]
+pub struct Disagreement {
+    pub rust: Answer,
+    pub second: Answer,
+}
+
+impl fmt::Display for Disagreement {
+    fn fmt(&self, f: &mut fmt::Formatter<'_>) -> fmt::Result {
+        write!(f, "the Rust            {}\nthe second reading  {}", self.rust, self.second)
     }
 }
 
@@ -103,11 +136,11 @@ pub struct Call {
     pub need: fn(&Ask) -> usize,
     /// The bytes that it takes in the list that is filled.
     pub list_need: fn(&Ask) -> usize,
-    /// What the second reading says: the refusals that come before anything else, in their order.
+    /// What the second reading alone says: the refusals that come before anything else, in their order.
     pub second: fn(&Ask) -> Passed,
-    /// The answer to an input that passed: the Rust's, told in document 01's bytes and numbers, or where it has none the second
-    /// reading's.
-    pub answer: fn(&Ask) -> Answer,
+    /// What a judge answers to an input that passed, in document 01's bytes and numbers. It is told by the second reading where no judge
+    /// is asked.
+    pub answer: fn(&Ask, &dyn Judge) -> Answer,
 }
 
 /// What most calls have: one pass, no buffer, no form.
@@ -119,7 +152,7 @@ const PLAIN: Call = Call {
     need: nothing,
     list_need: nothing,
     second: |_| Ok(()),
-    answer: |_| Answer::default(),
+    answer: |_, _| Answer::default(),
 };
 
 /// Places in `CALLS`.
@@ -174,15 +207,48 @@ impl Call {
         ask
     }
 
-    /// The answer that the library owes.
-    pub fn owed(&self, ask: &Ask) -> Answer {
-        if let Err(refusal) = (self.second)(ask) {
-            return Answer::from(refusal).second();
+    /// What the second reading answers by the rules of the case. It is asked once.
+    pub fn reading<'a>(&self, ask: &'a Ask) -> &'a Answer {
+        ask.read.get_or_init(|| (self.answer)(ask, &Reading { passes: &ask.passes }))
+    }
+
+    /// The Rust's answer, with which the second reading agrees; or the second reading's, where the Rust has none.
+    pub fn held(&self, ask: &Ask) -> Result<Answer, Disagreement> {
+        let read = self.reading(ask);
+        if read.by == By::Second {
+            return Ok(read.clone());
         }
-        let answer = (self.answer)(ask);
-        let length = if answer.refusal.is_some() { 0 } else { (self.need)(ask) };
-        assert_eq!(answer.out.len(), length, "{} answers as many bytes as it says that it needs", self.name);
-        answer
+        let told = (self.answer)(ask, &TheRust { passes: &ask.passes });
+        match told == *read {
+            true => Ok(told),
+            false => Err(Disagreement { rust: told, second: read.clone() }),
+        }
+    }
+
+    /// The answer that the library owes, or that nobody can say.
+    pub fn judged(&self, ask: &Ask) -> Result<Answer, Disagreement> {
+        if let Err(refusal) = (self.second)(ask) {
+            return Ok(Answer::from(refusal).second());
+        }
+        let owed = match ask.rules == Rules::RUST {
+            true => self.held(ask)?,
+            false => self.departed(ask)?,
+        };
+        let length = if owed.refusal.is_some() { 0 } else { (self.need)(ask) };
+        assert_eq!(owed.out.len(), length, "{} answers as many bytes as it says that it needs", self.name);
+        Ok(owed)
+    }
+
+    /// Where other rules hold than the Rust's: the second reading's answer, still the Rust's where it comes to the same. By the Rust's
+    /// rules the two must agree all the same, so that nothing but those other rules tells them apart.
+    fn departed(&self, ask: &Ask) -> Result<Answer, Disagreement> {
+        let (told, read) = (self.held(&ask.by(Rules::RUST))?, self.reading(ask));
+        Ok(if *read == told { told } else { read.clone().second() })
+    }
+
+    /// The same, where a disagreement ends the program.
+    pub fn owed(&self, ask: &Ask) -> Answer {
+        self.judged(ask).unwrap_or_else(|apart| panic!("{}:\n{apart}", self.name))
     }
 
     /// The same of a case.
@@ -191,9 +257,10 @@ impl Call {
     }
 }
 
-/// The Rust's policy over the bank of a question that passed.
-fn snapshot(ask: &Ask) -> PolicySnapshot {
-    policy_of(ask.policy).with(models_of(ask.bank))
+/// What is decided, for a question that passed.
+fn question(ask: &Ask) -> Question {
+    let (policy, request, models) = (policy_of(ask.policy), request_of(ask.request), models_of(ask.bank));
+    Question { rules: ask.rules, policy, request, models }
 }
 
 /// For a call that has no buffer for an answer.

@@ -1,6 +1,7 @@
 //! `read_request`: the request of a request form.
 use super::{Answer, Call, Handed, PLAIN};
 use crate::case::Ask;
+use crate::judges::Judge;
 use crate::second::bytes::REQUEST_BYTES;
 use crate::second::forms::{request_in, REQUEST_FORM};
 use crate::second::refusals::{self, Passed};
@@ -11,7 +12,7 @@ pub const CALL: Call = Call {
     tags: REQUEST_FORM,
     need,
     second,
-    answer: reading,
+    answer,
     ..PLAIN
 };
 
@@ -25,6 +26,6 @@ fn second(ask: &Ask) -> Passed {
     refusals::room(ask.room, REQUEST_BYTES)
 }
 
-fn reading(ask: &Ask) -> Answer {
+fn answer(ask: &Ask, _: &dyn Judge) -> Answer {
     Answer::of(request_in(&ask.form).expect("it passed").to_vec()).second()
 }

@@ -1,6 +1,7 @@
 //! `read_stored`: the policy and the models of a stored form. The models go to the start of a lent bank.
 use super::{Answer, Call, Handed, PLAIN};
 use crate::case::Ask;
+use crate::judges::Judge;
 use crate::second::forms::{stored_of, READ_BYTES, STORED_FORM};
 use crate::second::refusals::{self, Passed};
 
@@ -11,7 +12,7 @@ pub const CALL: Call = Call {
     need,
     list_need,
     second,
-    answer: reading,
+    answer,
     ..PLAIN
 };
 
@@ -31,7 +32,7 @@ fn second(ask: &Ask) -> Passed {
     refusals::room(ask.room, READ_BYTES)
 }
 
-fn reading(ask: &Ask) -> Answer {
+fn answer(ask: &Ask, _: &dyn Judge) -> Answer {
     let (policy, models) = stored_of(&ask.form).expect("it passed");
     let out = [policy, &(models.len() as u64).to_le_bytes()].concat();
     Answer { list: models.to_vec(), ..Answer::of(out) }.second()

@@ -1,24 +1,38 @@
-//! `unit_text`: what the unit's program prints. The decision, its counts and the levers are the Rust's, their text the second reading's.
-use super::program::{self, Program, Refused};
-use super::{Call, Handed, PLAIN};
+//! `unit_text`: what the unit's program prints.
+use super::program;
+use super::{Answer, Call, Handed, PLAIN};
+use crate::case::Ask;
+use crate::judges::Judge;
+use crate::second::deciding::Question;
 use crate::second::forms::PROGRAM_INPUT;
 use crate::second::printed::unit_lines;
-use oracle::counterfactual;
+use crate::second::refusals::{Passed, Refusal};
 
 pub const CALL: Call = Call {
     name: "unit_text",
     takes: &[Handed::Form, Handed::Out],
     tags: PROGRAM_INPUT,
     many_passes: true,
-    need: |ask| program::need(ask, report),
-    second: |ask| program::second(ask, report),
-    answer: |ask| program::answer(ask, report),
+    need,
+    second,
+    answer,
     ..PLAIN
 };
 
-fn report(program: &Program, _: u32) -> Result<String, Refused> {
-    let Program { snapshot, request, .. } = program;
-    let (decision, trace) = snapshot.prescribe_with_trace(*request);
-    let levers = counterfactual::decision_margin(snapshot, *request).map_or(Vec::new(), |margin| margin.levers);
-    Ok(unit_lines(&decision, &trace.rejections, &levers))
+fn need(ask: &Ask) -> usize {
+    program::need(&CALL, ask)
+}
+
+fn second(ask: &Ask) -> Passed {
+    program::second(&CALL, ask)
+}
+
+fn answer(ask: &Ask, judge: &dyn Judge) -> Answer {
+    program::answer(ask, judge, report)
+}
+
+fn report(judge: &dyn Judge, question: &Question, _: u32) -> Result<String, Refusal> {
+    let (decision, counts) = judge.decision(question);
+    let levers = judge.decision_margin(question).map_or(Vec::new(), |margin| margin.levers);
+    Ok(unit_lines(&decision, &counts, &levers))
 }

@@ -1,7 +1,8 @@
 //! `utility_for_model`: the utility of the first listed record with an id, if that record is eligible.
-use super::{snapshot, Answer, Call, Handed, PLAIN};
+use super::{question, Answer, Call, Handed, PLAIN};
 use crate::case::Ask;
-use crate::second::bytes::{request_of, UTILITY_BYTES};
+use crate::judges::Judge;
+use crate::second::bytes::UTILITY_BYTES;
 use crate::second::refusals::{self, Passed, Refusal};
 
 pub const CALL: Call = Call {
@@ -9,7 +10,7 @@ pub const CALL: Call = Call {
     takes: &[Handed::Policy, Handed::Request, Handed::Bank, Handed::Id, Handed::Out],
     need,
     second,
-    answer: rust,
+    answer,
     ..PLAIN
 };
 
@@ -17,15 +18,15 @@ fn need(_: &Ask) -> usize {
     UTILITY_BYTES
 }
 
-/// 22, 1, 2, 4; then 7, where the Rust has no answer. There is no checked form, so 3 isn't given.
+/// 22, 1, 2, 4; then 7, where there is no utility. There is no checked form, so 3 isn't given.
 fn second(ask: &Ask) -> Passed {
     refusals::field_lengths(ask.policy, ask.request)?;
     refusals::bank(ask.bank)?;
     refusals::room(ask.room, UTILITY_BYTES)
 }
 
-fn rust(ask: &Ask) -> Answer {
-    match snapshot(ask).utility_for_model(request_of(ask.request), ask.id) {
+fn answer(ask: &Ask, judge: &dyn Judge) -> Answer {
+    match judge.utility(&question(ask), ask.id) {
         Some(utility) => Answer::of(utility.to_le_bytes().to_vec()),
         None => Refusal::of(refusals::NO_UTILITY).into(),
     }

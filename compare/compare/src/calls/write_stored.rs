@@ -1,17 +1,12 @@
 //! `write_stored`: the stored form of a policy with its bank.
 use super::{Answer, Call, Handed, PLAIN};
 use crate::case::Ask;
+use crate::judges::Judge;
 use crate::second::forms::{storable, stored_form, STORED_BYTES};
 use crate::second::refusals::{self, Passed};
 
-pub const CALL: Call = Call {
-    name: "write_stored",
-    takes: &[Handed::Policy, Handed::Bank, Handed::Out],
-    need,
-    second,
-    answer: reading,
-    ..PLAIN
-};
+pub const CALL: Call =
+    Call { name: "write_stored", takes: &[Handed::Policy, Handed::Bank, Handed::Out], need, second, answer, ..PLAIN };
 
 fn need(ask: &Ask) -> usize {
     STORED_BYTES + ask.bank.len()
@@ -25,6 +20,6 @@ fn second(ask: &Ask) -> Passed {
     refusals::room(ask.room, need(ask))
 }
 
-fn reading(ask: &Ask) -> Answer {
+fn answer(ask: &Ask, _: &dyn Judge) -> Answer {
     Answer::of(stored_form(ask.policy, ask.bank)).second()
 }

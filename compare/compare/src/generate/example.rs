@@ -85,7 +85,7 @@ pub fn with_models(change: fn(&mut Vec<KernelModel>)) -> Setting {
 }
 
 /// At price 1, each way is rounded up to 1.
-fn one_token_each_way() -> Setting {
+pub fn one_token_each_way() -> Setting {
     let mut setting = with_request(|q| (q.input_tokens, q.output_tokens) = (1, 1));
     for model in &mut setting.models {
         model.input_cost_microunits_per_million_tokens = 1;

@@ -23,6 +23,7 @@ use crate::calls::{
 use crate::calls::{UNIT, UTILITY, VALIDATE, WIN, WORDS, WRITE_REQUEST, WRITE_STORED};
 use crate::case::{Case, Formed, Listed, Room};
 use crate::second::bytes::{bank_bytes, policy_bytes, request_bytes, Policy, RECORD_BYTES};
+use crate::second::rules::Rules;
 use oracle::kernel::{KernelInput, KernelModel, PolicySnapshot};
 use random::Random;
 
@@ -124,6 +125,7 @@ impl Setting {
     /// The setting's bytes, with a buffer that just fits.
     pub fn case(&self, id: u32) -> Case {
         Case {
+            rules: Rules::TODAY,
             policy: policy_bytes(&self.policy),
             request: request_bytes(&self.request),
             bank: bank_bytes(&self.models),

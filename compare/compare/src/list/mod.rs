@@ -5,7 +5,7 @@
 //!
 //! | Bytes | What |
 //! |---|---|
-//! | 1 | who says what is owed: 1 the Rust, 2 the second reading, 3 both: the Rust decides, the second reading prints it |
+//! | 1 | who says what is owed: 1 the Rust, 2 the second reading alone, 3 both: the Rust decides, the second reading prints it |
 //! | 1 | the call: 1 to 19, in the order of `CALLS` |
 //! | 8 | the id or the place that it takes, else 0 |
 //! | 2 each | five lengths: of the policy, the request, the bytes, the space and the buffer; 0 for what the call doesn't take |

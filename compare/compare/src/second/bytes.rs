@@ -1,5 +1,6 @@
 //! Document 01's bytes: little-endian, signed numbers in two's complement, no gaps, fields in the order in which they stand below.
-use oracle::kernel::{KernelDecision, KernelInput, KernelModel, PolicySnapshot, RejectionHistogram};
+use super::deciding::{Counts, Decision};
+use oracle::kernel::{KernelInput, KernelModel};
 
 pub const POLICY_BYTES: usize = 30;
 pub const REQUEST_BYTES: usize = 70;
@@ -22,21 +23,6 @@ pub struct Policy {
     pub minimum_confidence_bps: u16,
     pub risk_penalty_multiplier_bps: u16,
     pub latency_penalty_microunits_per_ms: u64,
-}
-
-impl Policy {
-    /// The Rust's policy, which owns its models.
-    pub fn with(&self, models: Vec<KernelModel>) -> PolicySnapshot {
-        PolicySnapshot::new_unchecked(
-            self.policy_epoch,
-            self.catalog_epoch,
-            self.hard_risk_limit_bps,
-            self.minimum_confidence_bps,
-            self.risk_penalty_multiplier_bps,
-            self.latency_penalty_microunits_per_ms,
-            models,
-        )
-    }
 }
 
 /// What is left to read. A field is read off the front.
@@ -180,33 +166,28 @@ pub fn bank_bytes(models: &[KernelModel]) -> Vec<u8> {
     out
 }
 
-pub fn decision_bytes(d: &KernelDecision) -> Vec<u8> {
+pub fn decision_bytes(d: &Decision) -> Vec<u8> {
     [
-        &d.request_sequence.to_le_bytes()[..],
-        &[d.action as u8],
-        &(d.reason as u16).to_le_bytes(),
-        &d.selected_model_id.to_le_bytes(),
-        &d.selected_model_index.to_le_bytes(),
-        &d.estimated_cost_microunits.to_le_bytes(),
-        &d.expected_utility_microunits.to_le_bytes(),
-        &d.counterfactual_model_id.to_le_bytes(),
-        &d.counterfactual_utility_microunits.to_le_bytes(),
-        &d.evaluated_models.to_le_bytes(),
-        &d.eligible_models.to_le_bytes(),
+        &d.sequence.to_le_bytes()[..],
+        &[d.action],
+        &d.reason.to_le_bytes(),
+        &d.model_id.to_le_bytes(),
+        &d.place.to_le_bytes(),
+        &d.cost.to_le_bytes(),
+        &d.utility.to_le_bytes(),
+        &d.other_id.to_le_bytes(),
+        &d.other_utility.to_le_bytes(),
+        &d.evaluated.to_le_bytes(),
+        &d.eligible.to_le_bytes(),
         &d.policy_epoch.to_le_bytes(),
         &d.catalog_epoch.to_le_bytes(),
     ]
     .concat()
 }
 
-pub fn traced_bytes(d: &KernelDecision, counts: &RejectionHistogram) -> Vec<u8> {
-    let counts = counts_in_order(counts).into_iter().flat_map(u16::to_le_bytes);
+pub fn traced_bytes(d: &Decision, counts: &Counts) -> Vec<u8> {
+    let counts = counts.iter().flat_map(|count| count.to_le_bytes());
     decision_bytes(d).into_iter().chain(counts).collect()
-}
-
-/// The nine counts as they are held and printed. Neither the gates' order nor the order of equal counts is this one.
-pub fn counts_in_order(c: &RejectionHistogram) -> [u16; 9] {
-    [c.disabled, c.quality, c.risk_ceiling, c.latency, c.capability, c.provider, c.region, c.budget, c.utility]
 }
 
 #[cfg(test)]

@@ -1,5 +1,6 @@
 //! Document 01's explanation record, and the next eligible one of a list of them.
-use oracle::kernel::{CandidateExplanation, CandidateVerdict, Explanation, GateKind, UtilityTerms};
+use super::deciding::{Explained, Verdict};
+use super::price::Terms;
 
 pub const EXPLANATION_BYTES: usize = 72;
 /// The place of a next eligible record, or `NO_MORE`.
@@ -9,26 +10,23 @@ pub const NO_MORE: u64 = u64::MAX;
 const VERDICT: usize = 6;
 const ELIGIBLE: u8 = 4;
 
-/// A record for each candidate, in the Rust's order.
-pub fn explanation_bytes(explanation: &Explanation) -> Vec<u8> {
-    explanation.candidates.iter().flat_map(record).collect()
+pub fn explanation_bytes(explained: &[Explained]) -> Vec<u8> {
+    explained.iter().flat_map(record).collect()
 }
 
 /// What a verdict doesn't carry stays zero.
-fn record(candidate: &CandidateExplanation) -> [u8; EXPLANATION_BYTES] {
+fn record(explained: &Explained) -> [u8; EXPLANATION_BYTES] {
     let mut bytes = [0; EXPLANATION_BYTES];
-    put(&mut bytes, 0, &candidate.model_id.to_le_bytes());
-    put(&mut bytes, 4, &candidate.model_index.to_le_bytes());
-    match &candidate.verdict {
-        CandidateVerdict::Rejected { gate, measured, limit } => {
-            bytes[7] = gate_number(*gate);
-            put_pair(&mut bytes, 1, i128::from(*measured), i128::from(*limit));
+    put(&mut bytes, 0, &explained.id.to_le_bytes());
+    put(&mut bytes, 4, &explained.place.to_le_bytes());
+    match &explained.verdict {
+        Verdict::Rejected(failed) => {
+            bytes[7] = failed.gate;
+            put_pair(&mut bytes, 1, failed.measured.into(), failed.limit.into());
         }
-        CandidateVerdict::OverBudget { cost_microunits, limit_microunits } => {
-            put_pair(&mut bytes, 2, i128::from(*cost_microunits), i128::from(*limit_microunits));
-        }
-        CandidateVerdict::NonPositiveUtility(terms) => put_terms(&mut bytes, 3, terms),
-        CandidateVerdict::Eligible(terms) => put_terms(&mut bytes, ELIGIBLE, terms),
+        Verdict::OverBudget { cost, budget } => put_pair(&mut bytes, 2, (*cost).into(), (*budget).into()),
+        Verdict::NonPositive(terms) => put_terms(&mut bytes, 3, terms),
+        Verdict::Eligible(terms) => put_terms(&mut bytes, ELIGIBLE, terms),
     }
     bytes
 }
@@ -38,30 +36,17 @@ fn put(bytes: &mut [u8], at: usize, field: &[u8]) {
 }
 
 /// The verdict, and the two numbers of 16 bytes that every verdict has.
-fn put_pair(bytes: &mut [u8], verdict: u8, first: i128, second: i128) {
+fn put_pair(bytes: &mut [u8], verdict: u8, first: u128, second: u128) {
     bytes[VERDICT] = verdict;
     put(bytes, 8, &first.to_le_bytes());
     put(bytes, 24, &second.to_le_bytes());
 }
 
-fn put_terms(bytes: &mut [u8], verdict: u8, terms: &UtilityTerms) {
-    put_pair(bytes, verdict, terms.quality_adjusted, terms.risk_penalty);
-    put(bytes, 40, &terms.cost_microunits.to_le_bytes());
-    put(bytes, 48, &terms.latency_penalty.to_le_bytes());
+fn put_terms(bytes: &mut [u8], verdict: u8, terms: &Terms) {
+    put_pair(bytes, verdict, terms.quality, terms.risk);
+    put(bytes, 40, &terms.cost.to_le_bytes());
+    put(bytes, 48, &terms.latency.to_le_bytes());
     put(bytes, 64, &terms.utility.to_le_bytes());
-}
-
-fn gate_number(gate: GateKind) -> u8 {
-    match gate {
-        GateKind::Disabled => 1,
-        GateKind::Quality => 2,
-        GateKind::Latency => 3,
-        GateKind::Capability => 4,
-        GateKind::ProviderUnrepresentable => 5,
-        GateKind::ProviderNotAllowed => 6,
-        GateKind::Region => 7,
-        GateKind::RiskCeiling => 8,
-    }
 }
 
 /// The place of the first whole record with verdict 4 that stands at `from` or after it.
@@ -74,25 +59,25 @@ pub fn next_eligible(list: &[u8], from: u64) -> u64 {
 #[cfg(test)]
 mod tests {
     use super::*;
+    use crate::second::gates::Failed;
 
     /// The bytes at which a number other than 0 begins, with that number's lowest byte.
-    fn marks(verdict: CandidateVerdict) -> Vec<(usize, u8)> {
-        let bytes = record(&CandidateExplanation { model_id: 1, model_index: 2, verdict });
+    fn marks(verdict: Verdict) -> Vec<(usize, u8)> {
+        let bytes = record(&Explained { id: 1, place: 2, verdict });
         bytes.into_iter().enumerate().filter(|(_, byte)| *byte != 0).collect()
     }
 
     #[test]
     fn a_record_has_its_fields_at_the_documents_offsets() {
-        let terms =
-            UtilityTerms { quality_adjusted: 5, risk_penalty: 6, cost_microunits: 7, latency_penalty: 8, utility: 9 };
-        let rejected = CandidateVerdict::Rejected { gate: GateKind::RiskCeiling, measured: 5, limit: 6 };
-        let over = CandidateVerdict::OverBudget { cost_microunits: 5, limit_microunits: 6 };
+        let terms = Terms { quality: 5, risk: 6, cost: 7, latency: 8, utility: 9 };
+        let rejected = Verdict::Rejected(Failed { gate: 8, measured: 5, limit: 6 });
+        let over = Verdict::OverBudget { cost: 5, budget: 6 };
         assert_eq!(marks(rejected), [(0, 1), (4, 2), (6, 1), (7, 8), (8, 5), (24, 6)]);
         assert_eq!(marks(over), [(0, 1), (4, 2), (6, 2), (8, 5), (24, 6)]);
         let priced = [(8, 5), (24, 6), (40, 7), (48, 8), (64, 9)];
         let with = |verdict: u8| [&[(0, 1), (4, 2), (6, verdict)][..], &priced].concat();
-        assert_eq!(marks(CandidateVerdict::NonPositiveUtility(terms)), with(3));
-        assert_eq!(marks(CandidateVerdict::Eligible(terms)), with(4));
+        assert_eq!(marks(Verdict::NonPositive(terms)), with(3));
+        assert_eq!(marks(Verdict::Eligible(terms)), with(4));
     }
 
     #[test]

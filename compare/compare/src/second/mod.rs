@@ -1,16 +1,20 @@
-//! A second reading of document 01.
+//! A second reading of document 01, apart from the port and from the Rust: of the Rust it has the types of a record and of a request, and
+//! nothing else.
 //!
-//! What the Rust doesn't have is read from the document once more here, apart from the port: the bytes of policy, request, record
-//! and answer, the refusal numbers and their order, the order of a trusted bank, the number of passes of a search, the stored form and the
-//! request form, and what the programs print (the desk's sentences, which the document hasn't, from the port's rule for them). Nothing in
-//! this folder decides, counts or prices: that comes from the Rust alone. Where the Rust has an answer too, the call's module holds the two
-//! against each other.
+//! It decides, explains and searches by itself (`gates`, `price`, `deciding`, `search`), by `rules` that may be other than the Rust's. What the
+//! Rust doesn't have is here alone: the bytes of policy, request, record and answer, the refusal numbers and their order, the order of a
+//! trusted bank, the number of passes, the stored form and the request form, and what the programs print (the desk's sentences, which
+//! the document hasn't, from the port's rule for them).
 pub mod boundaries;
 pub mod bytes;
 pub mod catalogue;
+pub mod deciding;
 pub mod explanation;
 pub mod forms;
+pub mod gates;
+pub mod price;
 pub mod printed;
 pub mod refusals;
+pub mod rules;
 pub mod search;
 pub mod words;

@@ -1,6 +1,6 @@
 //! Document 01's refusal numbers, the tests behind them, and the word in which the library hands one back.
 use super::bytes::{POLICY_BYTES, RECORD_BYTES, REQUEST_BYTES};
-use oracle::kernel::InputError;
+use oracle::kernel::KernelInput;
 
 pub const BANK_LENGTH: u8 = 1;
 pub const TOO_MANY_RECORDS: u8 = 2;
@@ -13,6 +13,8 @@ pub const BEYOND: u8 = 8;
 pub const FIELD_LENGTH: u8 = 22;
 
 pub const MOST_RECORDS: usize = 65_535;
+/// Of a risk, a confidence, a quality and a ceiling.
+pub const MOST_BPS: u16 = 10_000;
 
 /// A number with its values: which field, its value, and an id or a place. What a number doesn't carry is 0.
 #[derive(Clone, Copy, Debug, PartialEq, Eq)]
@@ -79,19 +81,13 @@ pub fn place(bank: &[u8], place: u64) -> Passed {
     unless(place >= (bank.len() / RECORD_BYTES) as u64, BEYOND)
 }
 
-/// 3: which field and which value is the Rust's to say, in its order; the fields' numbers are document 01's. The place is 0
-/// outside a batch.
-pub fn request_limit(error: &InputError) -> Refusal {
-    let InputError::OutOfRangeBps { field, value, .. } = error else {
-        panic!("the Rust has an error that document 01 has no number for: {error:?}");
-    };
-    let field = match *field {
-        "risk_bps" => 1,
-        "confidence_bps" => 2,
-        "minimum_quality_bps" => 3,
-        other => panic!("the Rust tests a field that document 01 has no number for: {other}"),
-    };
-    Refusal { field, value: *value, ..Refusal::of(REQUEST_LIMIT) }
+/// 3: the first of risk, confidence and minimum quality that is above 10,000, as field 1, 2 or 3. The place is 0 outside a batch.
+pub fn request_limits(request: &KernelInput) -> Passed {
+    let fields = [(1, request.risk_bps), (2, request.confidence_bps), (3, request.minimum_quality_bps)];
+    match fields.into_iter().find(|(_, value)| *value > MOST_BPS) {
+        Some((field, value)) => Err(Refusal { field, value, ..Refusal::of(REQUEST_LIMIT) }),
+        None => Ok(()),
+    }
 }
 
 #[cfg(test)]

@@ -1,6 +1,5 @@
 //! The desk's sentences. Document 01 has none: this is a second reading of the port's own rule for them, `crates/rules/specs/Words.antt`.
-use super::boundaries::Boundaries;
-use oracle::counterfactual::{Lever, Requirement};
+use super::boundaries::{Boundaries, Boundary, Lever};
 
 /// Today's price in millionths of itself.
 const TODAY: u64 = 1_000_000;
@@ -8,11 +7,11 @@ const TODAY: u64 = 1_000_000;
 /// What is said of the model with an id, whose first listed record is switched off or not.
 pub fn ask_words(id: u32, off: bool, found: &Boundaries) -> String {
     let decision = &found.decision;
-    if found.blocked_by_request {
-        let reason = decision.reason as u16;
+    if found.stopped {
+        let reason = decision.reason;
         return format!("The request itself is stopped, with reason {reason}: no change to a model would help.\n");
     }
-    if decision.is_executable() && decision.selected_model_id == id {
+    if decision.selects(id) {
         return format!("Model {id} is chosen already.\n");
     }
     match (found.levers.is_empty(), off) {
@@ -22,16 +21,15 @@ pub fn ask_words(id: u32, off: bool, found: &Boundaries) -> String {
     }
 }
 
-fn sentence(id: u32, lever: &Requirement) -> String {
-    let (today, bound) = (lever.current, lever.boundary);
+fn sentence(id: u32, lever: &Boundary) -> String {
+    let (today, bound) = (lever.today, lever.bound);
     match lever.lever {
-        Lever::QualityBps => format!("Quality: {}", rise(today, bound)),
-        Lever::RiskCeilingBps => format!("Risk ceiling: {}", rise(today, bound)),
-        Lever::P95LatencyMs => format!("Latency: {today} ms today; it must fall to at most {bound} ms."),
-        Lever::PriceScalePpm => {
+        Lever::Quality => format!("Quality: {}", rise(today, bound)),
+        Lever::Ceiling => format!("Risk ceiling: {}", rise(today, bound)),
+        Lever::Latency => format!("Latency: {today} ms today; it must fall to at most {bound} ms."),
+        Lever::Price => {
             let (less, to) = (percent(TODAY.saturating_sub(bound)), percent(bound));
-            let cost = lever.cost_at_boundary_microunits;
-            let then = cost.map_or(String::new(), |cost| format!("; the request then costs {cost} microunits"));
+            let then = lever.cost.map_or(String::new(), |cost| format!("; the request then costs {cost} microunits"));
             format!("Price: 100 percent today; it must fall by at least {less}, to {to}{then}.")
         }
         Lever::Enabled => format!("Model {id} is only switched off: switched on, it would be chosen."),

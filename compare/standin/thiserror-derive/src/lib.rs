@@ -24,10 +24,8 @@ pub fn derive_error(item: TokenStream) -> TokenStream {
 
 /// The name after `enum` or `struct`.
 fn name_of(tokens: &[TokenTree]) -> String {
-    let at = tokens
-        .iter()
-        .position(|t| matches!(t.to_string().as_str(), "enum" | "struct"))
-        .expect("an enum or a struct");
+    let at =
+        tokens.iter().position(|t| matches!(t.to_string().as_str(), "enum" | "struct")).expect("an enum or a struct");
     tokens[at + 1].to_string()
 }
 
