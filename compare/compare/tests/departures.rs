@@ -14,8 +14,13 @@ use oracle::kernel::KernelModel;
 
 const ONCE: Rules = Rules { rounding: Rounding::Once };
 
-fn once(case: &Case) -> Case {
-    Case { rules: ONCE, ..case.clone() }
+fn by(rules: Rules, case: &Case) -> Case {
+    Case { rules, ..case.clone() }
+}
+
+/// The call's answer by the Rust's rules, and with costs rounded once.
+fn both(call: usize, case: &Case) -> [Answer; 2] {
+    [Rules::RUST, ONCE].map(|rules| CALLS[call].owed_on(&by(rules, case)))
 }
 
 /// The cost in a decision's bytes, and who told it.
@@ -25,15 +30,14 @@ fn told(answer: &Answer) -> (u64, By) {
 
 #[test]
 fn one_token_each_way_at_price_1_costs_1_in_place_of_2() {
-    let (case, call) = (one_token_each_way().case(1), &CALLS[PRESCRIBE]);
-    assert_eq!(told(&call.owed_on(&case)), (2, By::Rust));
-    assert_eq!(told(&call.owed_on(&once(&case))), (1, By::Second));
+    let owed = both(PRESCRIBE, &one_token_each_way().case(1));
+    assert_eq!(owed.each_ref().map(told), [(2, By::Rust), (1, By::Second)]);
 }
 
 #[test]
 fn a_rule_that_is_not_named_is_a_difference_naming_both() {
     let call = &CALLS[PRESCRIBE];
-    let case = once(&one_token_each_way().case(1));
+    let case = by(ONCE, &one_token_each_way().case(1));
     let apart = call.held(&call.ask(&case)).expect_err("the Rust rounds twice");
     assert_eq!((told(&apart.rust).0, told(&apart.second).0), (2, 1));
     let shown = apart.to_string();
@@ -43,19 +47,20 @@ fn a_rule_that_is_not_named_is_a_difference_naming_both() {
 
 #[test]
 fn the_list_says_who_told_an_answer() {
-    let teller = |case: Case| {
+    let teller = |rules: Rules, case: Case| {
         let mut bytes = Vec::new();
-        Entry { call: PRESCRIBE, case }.write(&mut bytes);
+        Entry { call: PRESCRIBE, case: by(rules, &case) }.write(&mut bytes);
         bytes[0]
     };
-    let (departing, same) = (one_token_each_way().case(1), example().case(1));
-    assert_eq!([teller(departing.clone()), teller(once(&departing)), teller(once(&same))], [1, 2, 1]);
+    let tellers = |case: Case| [Rules::RUST, ONCE].map(|rules| teller(rules, case.clone()));
+    assert_eq!(tellers(one_token_each_way().case(1)), [1, 2]);
+    assert_eq!(tellers(example().case(1)), [1, 1]);
 }
 
 /// Rounded once, model 1 wins to a cost of 799 and model 2 is chosen to one of 1,300: scales of 443,888 and 4,333,333.
 #[test]
 fn searches_and_texts_follow_the_rule() {
-    let case = once(&example().case(1));
+    let case = by(ONCE, &example().case(1));
     let printed = |call: usize| {
         let owed = CALLS[call].owed_on(&case);
         assert_eq!(owed.by, By::Second);
@@ -91,8 +96,7 @@ struct Tally {
 impl Tally {
     /// An explanation shows every cost that was asked for. No other answer can depart where it doesn't.
     fn check(&mut self, case: &Case) {
-        let by = |call: usize, case: &Case| CALLS[call].owed_on(case);
-        let (apart, owed) = (by(EXPLAIN, case), by(EXPLAIN, &once(case)));
+        let [apart, owed] = both(EXPLAIN, case);
         if apart.refusal.is_some() {
             assert_eq!(owed, apart);
             return;
@@ -104,8 +108,8 @@ impl Tally {
             "{case}"
         );
         for call in [PRESCRIBE, UTILITY] {
-            let (apart, owed) = (by(call, case), by(call, &once(case)));
-            assert!(if owed == apart { true } else { departs && owed.by == By::Second }, "{case}");
+            let [apart, owed] = both(call, case);
+            assert!(owed == apart || departs && owed.by == By::Second, "{case}");
         }
         *(if departs { &mut self.departed } else { &mut self.stayed }) += 1;
     }
