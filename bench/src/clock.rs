@@ -7,10 +7,14 @@ pub type Side<'a> = Box<dyn FnMut() + 'a>;
 
 /// Nanoseconds of a slice, at least.
 const SLICE: f64 = 1e6;
+/// Nanoseconds that the rounds of a row may take together, and the rounds that it has in any case: one run of the longest takes a second.
+const ROW: f64 = 3e9;
+const FEWEST: usize = 5;
 
 /// The nanoseconds of one run of each side: for each round one slice a side, each side first in its turn.
-pub fn rounds(sides: &mut [Side], rounds: usize) -> Vec<Vec<f64>> {
-    let repeats: Vec<u32> = sides.iter_mut().map(fitting).collect();
+pub fn rounds(sides: &mut [Side], wanted: usize) -> Vec<Vec<f64>> {
+    let (repeats, took): (Vec<u32>, Vec<f64>) = sides.iter_mut().map(fitting).unzip();
+    let rounds = wanted.min(FEWEST.max((ROW / took.iter().sum::<f64>()) as usize));
     let mut times = vec![Vec::with_capacity(rounds); sides.len()];
     for round in 0..rounds {
         for turn in 0..sides.len() {
@@ -21,13 +25,13 @@ pub fn rounds(sides: &mut [Side], rounds: usize) -> Vec<Vec<f64>> {
     times
 }
 
-/// How many runs fill a slice.
-fn fitting(side: &mut Side) -> u32 {
+/// How many runs fill a slice, and the nanoseconds that they took.
+fn fitting(side: &mut Side) -> (u32, f64) {
     let mut repeats = 1;
     loop {
         let total = slice(side, repeats) * f64::from(repeats);
         if total >= SLICE {
-            return repeats;
+            return (repeats, total);
         }
         repeats *= 2;
     }

@@ -119,25 +119,31 @@ pub fn decision_margin(q: Question, out: &mut [u8]) -> u64 {
     unsafe { volankizo_decision_margin(p.as_ptr(), p.len(), r.as_ptr(), r.len(), b.as_ptr(), b.len(), o, on) }
 }
 
-/// The address of each function, in the order of the comparison's calls.
-pub const ADDRESSES: [fn() -> usize; 19] = [
-    || volankizo_prescribe as *const () as usize,
-    || volankizo_prescribe_checked as *const () as usize,
-    || volankizo_utility_for_model as *const () as usize,
-    || volankizo_find as *const () as usize,
-    || volankizo_check_request as *const () as usize,
-    || volankizo_explain as *const () as usize,
-    || volankizo_next_eligible as *const () as usize,
-    || volankizo_validate as *const () as usize,
-    || volankizo_trust as *const () as usize,
-    || volankizo_what_would_win as *const () as usize,
-    || volankizo_decision_margin as *const () as usize,
-    || volankizo_record_at as *const () as usize,
-    || volankizo_write_stored as *const () as usize,
-    || volankizo_read_stored as *const () as usize,
-    || volankizo_write_request as *const () as usize,
-    || volankizo_read_request as *const () as usize,
-    || volankizo_unit_text as *const () as usize,
-    || volankizo_ask_text as *const () as usize,
-    || volankizo_ask_words as *const () as usize,
-];
+macro_rules! addresses {
+    ($($name:ident)*) => {
+        /// The name and the address of each function.
+        pub const ADDRESSES: &[(&str, fn() -> usize)] = &[$((stringify!($name), || $name as *const () as usize)),*];
+    };
+}
+
+addresses! {
+    volankizo_prescribe
+    volankizo_prescribe_checked
+    volankizo_utility_for_model
+    volankizo_find
+    volankizo_check_request
+    volankizo_explain
+    volankizo_next_eligible
+    volankizo_validate
+    volankizo_trust
+    volankizo_what_would_win
+    volankizo_decision_margin
+    volankizo_record_at
+    volankizo_write_stored
+    volankizo_read_stored
+    volankizo_write_request
+    volankizo_read_request
+    volankizo_unit_text
+    volankizo_ask_text
+    volankizo_ask_words
+}

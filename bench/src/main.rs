@@ -1,7 +1,10 @@
-//! Times the static library and the Rust that is ported on the same banks and requests.
-//! `bench rows ROUNDS [CALL]` prints a line for each row; `bench table FILE..` makes one table of such outputs; `bench stack` tells how
-//! much stack each call takes.
+//! Times the static library and the Rust that is ported on the same banks and requests, and has their instructions counted.
+//! `bench rows ROUNDS [CALL]` prints a line of times for each row. `bench once [CALL]`, under valgrind's callgrind, runs each side of each
+//! row once and prints a line for it. Of these lines (LINES) and of what callgrind wrote (PARTS), `bench table LINES PARTS TIMES..` makes
+//! the table of times and instructions, and `bench hold LINES PARTS RECORD` holds the instructions against a recorded table: it ends with 1
+//! where a row has more. `bench stack` tells how much stack each call takes.
 mod clock;
+mod counts;
 mod library;
 mod mixes;
 mod rows;
@@ -9,8 +12,9 @@ mod stack;
 mod table;
 
 use clock::median;
-use rows::Row;
+use rows::{Checked, Row};
 use std::hint::black_box;
+use std::process::exit;
 
 // The same code is up to a sixth faster or slower by where the linker puts it against the processor's blocks of 64 bytes. With this
 // before it, all that follows moves.
@@ -30,15 +34,25 @@ extern "C" {
 fn main() {
     black_box(&raw const bench_pad);
     let words: Vec<String> = std::env::args().skip(1).collect();
+    let only = |at: usize| words.get(at).map_or("", String::as_str);
     match words.first().map(String::as_str) {
         Some("rows") if words.len() > 1 => {
             let rounds = words[1].parse().expect("ROUNDS is a number");
-            let only = words.get(2).map_or("", String::as_str);
-            rows::each(only, &mut |row| show(row, rounds));
+            rows::each(only(2), Checked::Yes, &mut |row| show(row, rounds));
         }
-        Some("table") => table::print(&words[1..]),
+        Some("once") => counts::once(only(1)),
+        Some("table") if words.len() > 3 => table::print(&counts::read(&words[1], &words[2]), &words[3..]),
+        Some("hold") if words.len() == 4 => hold(&words),
         Some("stack") => stack::print(),
-        _ => panic!("usage: bench rows ROUNDS [CALL], bench table FILE.., or bench stack"),
+        _ => panic!("usage: bench rows ROUNDS [CALL], once [CALL], table LINES PARTS TIMES.., hold LINES PARTS RECORD, or stack"),
+    }
+}
+
+fn hold(words: &[String]) {
+    let above = table::hold(&counts::read(&words[1], &words[2]), &words[3]);
+    if above > 0 {
+        eprintln!("{above} rows have more instructions than {} has for them, or none there", words[3]);
+        exit(1);
     }
 }
 

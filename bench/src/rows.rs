@@ -24,34 +24,58 @@ pub struct Row<'a> {
 
 const OUT: usize = 183;
 
-/// Visits every row of the calls whose names begin so.
-pub fn each(only: &str, visit: &mut dyn FnMut(Row)) {
-    let wanted = |call: &str| call.starts_with(only);
-    for (records, mix) in [22, 900, 65_535].into_iter().flat_map(|n| Mix::ALL.map(|mix| (n, mix))) {
-        if wanted(&format!("prescribe {records}")) {
-            prescribe(mix, records, visit);
-        }
-    }
-    for (call, row) in
-        [("margin", margin as fn(Mix, &mut dyn FnMut(Row))), ("what would win", win), ("explain", explain)]
-    {
-        for mix in [Mix::Mixed, Mix::MostlyEligible, Mix::Spread, Mix::Beyond] {
-            if wanted(call) {
-                row(mix, visit);
-            }
+/// Whether the answers to a row's questions are held against those owed before it is visited. They need not be where the row is only
+/// counted, under valgrind, which makes all of it some fifty times slower.
+#[derive(Clone, Copy, PartialEq)]
+pub enum Checked {
+    Yes,
+    No,
+}
+
+/// Visits every row whose call and number of models, as in "prescribe 900", begin so.
+pub fn each(only: &str, checked: Checked, visit: &mut dyn FnMut(Row)) {
+    let wanted = |call: &str, records: usize| format!("{call} {records}").starts_with(only);
+    let some = [Mix::Mixed, Mix::MostlyEligible, Mix::Spread, Mix::Beyond];
+    type Asking = fn(Asked, &mut dyn FnMut(Row));
+    let asking: [(&str, Asking, &[usize], &[Mix]); 4] = [
+        ("prescribe", prescribe, &SIZES, &Mix::ALL),
+        ("margin", margin, &SIZES, &some),
+        ("what would win", win, &SIZES, &some),
+        ("explain", explain, &[UNIT], &some),
+    ];
+    for (call, row, sizes, mixes) in asking {
+        for &records in sizes.iter().filter(|&&records| wanted(call, records)) {
+            mixes.iter().for_each(|&mix| row(Asked::of(call, mix, records, checked), visit));
         }
     }
     for (call, row) in [("validate", validate as fn(&str, &mut dyn FnMut(Row))), ("trust", trust)] {
         for order in ["in order", "shuffled", "reversed"] {
-            if wanted(call) {
+            if wanted(call, UNIT) {
                 row(order, visit);
             }
         }
     }
 }
 
+/// A short list, the unit's, and the longest.
+const SIZES: [usize; 3] = [22, UNIT, 65_535];
+const UNIT: usize = 900;
+
+/// The more models and passes, the fewer requests: a margin over the longest list takes the Rust up to half a second.
+fn requests(call: &str, records: usize) -> usize {
+    match (call, records) {
+        ("explain", _) => 4,
+        (_, 22) | ("prescribe", UNIT) => 16,
+        ("prescribe", _) | (_, UNIT) => 2,
+        _ => 1,
+    }
+}
+
 /// The questions of a row in the form of each side.
 struct Asked {
+    call: &'static str,
+    mix: Mix,
+    checked: Checked,
     settings: Vec<Setting>,
     snapshot: PolicySnapshot,
     cases: Vec<Case>,
@@ -59,10 +83,20 @@ struct Asked {
 }
 
 impl Asked {
-    fn of(mix: Mix, records: usize, requests: usize) -> Self {
-        let settings = mix.settings(records, requests);
+    fn of(call: &'static str, mix: Mix, records: usize, checked: Checked) -> Self {
+        let settings = mix.settings(records, requests(call, records));
         let cases = settings.iter().map(|setting| Case { bank: Vec::new(), ..setting.case(0) }).collect();
-        Asked { snapshot: settings[0].snapshot(), bank: bank_bytes(&settings[0].models), settings, cases }
+        let (snapshot, bank) = (settings[0].snapshot(), bank_bytes(&settings[0].models));
+        Asked { call, mix, checked, settings, snapshot, cases, bank }
+    }
+
+    fn records(&self) -> usize {
+        self.settings[0].models.len()
+    }
+
+    fn row<'a>(&self, sides: Vec<Side<'a>>) -> Row<'a> {
+        let (records, mix) = (self.records(), self.mix.name());
+        Row { call: self.call, records, mix, models: (records * self.cases.len()) as f64, sides }
     }
 
     fn question(&self, at: usize) -> Question<'_> {
@@ -85,6 +119,9 @@ impl Asked {
 
     /// Ends the program where the library's answer isn't the one owed.
     fn check(&self, call: usize, id: u32, ours: impl Fn(Question) -> Answered) {
+        if self.checked == Checked::No {
+            return;
+        }
         for (at, setting) in self.settings.iter().enumerate() {
             let case = setting.case(id);
             let owed = CALLS[call].owed(&CALLS[call].ask(&case));
@@ -117,39 +154,30 @@ impl Answered {
     }
 }
 
-fn prescribe(mix: Mix, records: usize, visit: &mut dyn FnMut(Row)) {
-    let asked = Asked::of(mix, records, if records < 10_000 { 16 } else { 2 });
+fn prescribe(asked: Asked, visit: &mut dyn FnMut(Row)) {
     asked.check(PRESCRIBE, 0, |q| Answered::written(83, |out| library::prescribe(q, out)));
-    let models = (records * asked.cases.len()) as f64;
     let mut out = [0; 83];
     let ours = Box::new(|| asked.all(|q| library::prescribe(q, &mut out)));
     let traced = Box::new(|| asked.rust(|p, q| p.prescribe_with_trace(q)));
     let plain = Box::new(|| asked.rust(|p, q| p.prescribe(q)));
-    visit(Row { call: "prescribe", records, mix: mix.name(), models, sides: vec![ours, traced, plain] });
+    visit(asked.row(vec![ours, traced, plain]));
 }
 
-const UNIT: usize = 900;
-
-fn margin(mix: Mix, visit: &mut dyn FnMut(Row)) {
-    let asked = Asked::of(mix, UNIT, 2);
+fn margin(asked: Asked, visit: &mut dyn FnMut(Row)) {
     asked.check(MARGIN, 0, |q| Answered::written(OUT, |out| library::decision_margin(q, out)));
     let mut out = [0; OUT];
     let ours = Box::new(|| asked.all(|q| library::decision_margin(q, &mut out)));
     let rust = Box::new(|| asked.rust(counterfactual::decision_margin));
-    let models = (UNIT * asked.cases.len()) as f64;
-    visit(Row { call: "margin", records: UNIT, mix: mix.name(), models, sides: vec![ours, rust] });
+    visit(asked.row(vec![ours, rust]));
 }
 
-/// For the model in the middle of the bank.
-fn win(mix: Mix, visit: &mut dyn FnMut(Row)) {
-    let asked = Asked::of(mix, UNIT, 2);
+fn win(asked: Asked, visit: &mut dyn FnMut(Row)) {
     let id = runner_up(&asked);
     asked.check(WIN, id, |q| Answered::written(OUT, |out| library::what_would_win(q, id, out)));
     let mut out = [0; OUT];
     let ours = Box::new(|| asked.all(|q| library::what_would_win(q, id, &mut out)));
     let rust = Box::new(|| asked.rust(|p, q| counterfactual::what_would_win(p, q, id)));
-    let models = (UNIT * asked.cases.len()) as f64;
-    visit(Row { call: "what would win", records: UNIT, mix: mix.name(), models, sides: vec![ours, rust] });
+    visit(asked.row(vec![ours, rust]));
 }
 
 /// An eligible model in the middle of the bank, which wins by none of the requests.
@@ -161,18 +189,16 @@ fn runner_up(asked: &Asked) -> u32 {
     eligible[eligible.len() / 2]
 }
 
-fn explain(mix: Mix, visit: &mut dyn FnMut(Row)) {
-    let asked = Asked::of(mix, UNIT, 4);
-    let answer = |q: Question| {
-        let (mut list, mut out) = (vec![0; 72 * UNIT], vec![0; 65]);
+fn explain(asked: Asked, visit: &mut dyn FnMut(Row)) {
+    let buffers = || (vec![0; 72 * asked.records()], vec![0; 65]);
+    asked.check(EXPLAIN, 0, |q| {
+        let (mut list, mut out) = buffers();
         Answered { word: library::explain(q, &mut list, &mut out), out, list }
-    };
-    asked.check(EXPLAIN, 0, answer);
-    let (mut list, mut out) = (vec![0; 72 * UNIT], [0; 65]);
+    });
+    let (mut list, mut out) = buffers();
     let ours = Box::new(|| asked.all(|q| library::explain(q, &mut list, &mut out)));
     let rust = Box::new(|| asked.rust(|p, q| p.explain(q)));
-    let models = (UNIT * asked.cases.len()) as f64;
-    visit(Row { call: "explain", records: UNIT, mix: mix.name(), models, sides: vec![ours, rust] });
+    visit(asked.row(vec![ours, rust]));
 }
 
 /// A bank that may serve, in ascending order of its ids, in descending order, or in any.

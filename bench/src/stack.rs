@@ -2,14 +2,15 @@
 //! deep it went.
 use crate::library::ADDRESSES;
 use crate::mixes::Mix;
-use compare::calls::CALLS;
+use compare::calls::{Call, Handed, CALLS};
 use compare::generate::random::Random;
 use compare::generate::Setting;
 use compare::second::bytes::{bank_bytes, policy_bytes, request_bytes};
 use std::arch::asm;
-use std::collections::BTreeMap;
+use std::collections::BTreeSet;
+use std::hint::black_box;
 
-const STACK_BYTES: usize = 1 << 20;
+const STACK_BYTES: usize = 1 << 18;
 const PAINT: u8 = 0xa5;
 /// The arguments that go over in registers, and those that go over on the stack.
 const IN_REGISTERS: usize = 6;
@@ -43,48 +44,60 @@ unsafe fn call_on(top: *mut u8, function: usize, a: &[usize; IN_REGISTERS + ON_S
     answer
 }
 
-/// How many bytes below its arguments one call touched.
-fn depth(function: usize, arguments: &[usize]) -> usize {
+/// What one call handed back, and how many bytes below its arguments it touched.
+fn depth(function: usize, arguments: &[usize]) -> (u64, usize) {
     let mut stack = vec![PAINT; STACK_BYTES];
     let mut a = [0; IN_REGISTERS + ON_STACK];
     a[..arguments.len()].copy_from_slice(arguments);
     let top = stack.as_mut_ptr().wrapping_add(STACK_BYTES).map_addr(|address| address & !15);
     let arguments_at = top as usize - 8 * ON_STACK - stack.as_ptr() as usize;
-    std::hint::black_box(unsafe { call_on(top, function, &a) });
-    arguments_at
-        - std::hint::black_box(&stack).iter().position(|&byte| byte != PAINT).expect("a call leaves its return address")
+    let word = black_box(unsafe { call_on(top, function, &a) });
+    let touched = black_box(&stack).iter().position(|&byte| byte != PAINT).expect("a call leaves its return address");
+    (word, arguments_at - touched)
 }
 
-/// What a function is handed: each slice as an address and a length, in the order that the comparison has for the call.
-fn deepest(call: usize, settings: &[Setting]) -> usize {
-    let one = |setting: &Setting| {
-        let (mut policy, mut request) = (policy_bytes(&setting.policy), request_bytes(&setting.request));
-        let (mut bank, mut out) = (bank_bytes(&setting.models), vec![0u8; 1024]);
-        let mut list = vec![0u8; 72 * setting.models.len()];
-        let id = setting.models[setting.models.len() / 2].model_id;
-        let mut form = CALLS[call].ask(&setting.case(id)).form;
-        let mut arguments = Vec::new();
-        let slice = |bytes: &mut [u8]| [bytes.as_mut_ptr() as usize, bytes.len()];
-        for taken in CALLS[call].takes {
-            use compare::calls::Handed::*;
-            match taken {
-                Policy => arguments.extend(slice(&mut policy)),
-                Request => arguments.extend(slice(&mut request)),
-                Bank => arguments.extend(slice(&mut bank)),
-                Out => arguments.extend(slice(&mut out)),
-                List | Listed => arguments.extend(slice(&mut list)),
-                Form => arguments.extend(slice(&mut form)),
-                Id => arguments.push(id as usize),
-                Place => arguments.push(0),
-            }
+/// Asks a call on a setting for the model with this id. It is handed each slice as an address and a length, in the order that the comparison
+/// has for the call.
+fn asked(call: &Call, setting: &Setting, id: u32) -> (u64, usize) {
+    let (mut policy, mut request) = (policy_bytes(&setting.policy), request_bytes(&setting.request));
+    let (mut bank, mut out) = (bank_bytes(&setting.models), vec![0u8; 4096]);
+    let mut list = vec![0u8; 72 * setting.models.len()];
+    let mut form = call.ask(&setting.case(id)).form;
+    let mut arguments = Vec::new();
+    let slice = |bytes: &mut [u8]| [bytes.as_mut_ptr() as usize, bytes.len()];
+    for taken in call.takes {
+        use compare::calls::Handed::*;
+        match taken {
+            Policy => arguments.extend(slice(&mut policy)),
+            Request => arguments.extend(slice(&mut request)),
+            Bank => arguments.extend(slice(&mut bank)),
+            Out => arguments.extend(slice(&mut out)),
+            List | Listed => arguments.extend(slice(&mut list)),
+            Form => arguments.extend(slice(&mut form)),
+            Id => arguments.push(id as usize),
+            Place => arguments.push(0),
         }
-        depth(ADDRESSES[call](), &arguments)
-    };
-    settings.iter().map(one).max().expect("there are settings")
+    }
+    let name = format!("volankizo_{}", call.name);
+    let (_, address) = ADDRESSES.iter().find(|(known, _)| *known == name).expect("the library has every call");
+    depth(address(), &arguments)
 }
 
-/// Every mix, so that the ways by two limbs are among them; then each in disorder, with the highest latency for every model and no limit on
-/// it, so that the ordering and the longest halvings are.
+/// The deepest of a call on all settings, for each model where it takes an id. A refusal is shallow: one question at least is answered.
+fn deepest(call: &Call, settings: &[Setting]) -> usize {
+    let ids = |setting: &Setting| match call.takes.contains(&Handed::Id) {
+        true => setting.models.iter().map(|model| model.model_id).collect(),
+        false => vec![setting.models[0].model_id],
+    };
+    let all: Vec<(u64, usize)> =
+        settings.iter().flat_map(|s| ids(s).into_iter().map(|id| asked(call, s, id))).collect();
+    assert!(all.iter().any(|&(word, _)| word == 0), "{} answers no question", call.name);
+    all.iter().map(|&(_, depth)| depth).max().expect("there are settings")
+}
+
+/// Every mix, so that the ways by two limbs are among them. Each as it is, in disorder, so that the ordering is among them, and then with the
+/// highest latency for every model and no limit on it, which is the widest range of a search. Each of these once more with providers that
+/// a bank may have, since one that doesn't validate prints nothing but its refusal.
 fn settings() -> Vec<Setting> {
     let mut all: Vec<Setting> = Mix::ALL.iter().flat_map(|mix| mix.settings(22, 4)).collect();
     for mut setting in all.clone() {
@@ -95,16 +108,27 @@ fn settings() -> Vec<Setting> {
         setting.request.max_p95_latency_ms = 0;
         all.push(setting);
     }
+    for mut setting in all.clone() {
+        setting.models.iter_mut().for_each(|model| model.provider_id %= 64);
+        all.push(setting);
+    }
     all
 }
 
+/// A line for each call that the header declares, the least first.
 pub fn print() {
+    let header = include_str!("../../include/volankizo.h");
+    let declared = header.lines().filter_map(|line| line.strip_prefix("uint64_t volankizo_")?.split('(').next());
+    let declared: BTreeSet<&str> = declared.collect();
+    assert_eq!(
+        declared,
+        CALLS.iter().map(|call| call.name).collect(),
+        "the header and the comparison have the same calls"
+    );
     let settings = settings();
-    let mut depths = BTreeMap::new();
-    for (call, described) in CALLS.iter().enumerate() {
-        depths.insert(described.name, deepest(call, &settings));
-    }
+    let mut depths: Vec<(usize, &str)> = CALLS.iter().map(|call| (deepest(call, &settings), call.name)).collect();
+    depths.sort();
     println!("| Call | Deepest stack, bytes |");
     println!("|---|---|");
-    depths.iter().for_each(|(name, bytes)| println!("| `volankizo_{name}` | {bytes} |"));
+    depths.iter().for_each(|(bytes, name)| println!("| `volankizo_{name}` | {bytes} |"));
 }

@@ -1,39 +1,102 @@
-//! One table of the outputs of several runs, each linked at another place.
+//! The tables of docs/SPEED.md. One of times and instructions: the times are of several runs, each linked at another place, the
+//! instructions of one, since they are the same in all. And one of instructions alone, beside those that docs/SPEED.md has.
 use crate::clock::median;
+use crate::counts::Counts;
 use std::collections::HashMap;
 use std::fs;
 
 /// The numbers that the outputs have for one row: a list for each column.
 type Columns = Vec<Vec<f64>>;
 
-pub fn print(files: &[String]) {
-    let mut order: Vec<String> = Vec::new();
+const HEAD: &str =
+    "Call | Models | Mix | Ours, ns | Rust, ns | Ratio | Lowest, highest | Ours, instr. | Rust, instr. | \
+                    Plain, ns | Ratio | Plain, instr.";
+/// Where `HEAD` has the instructions of ours.
+const OURS: usize = 7;
+
+/// A line for each row: its name, then for ours and the Rust's the nanoseconds a model, the ratio with its range over the places, and the
+/// instructions a model; then the same of the Rust's plain call where there is one.
+pub fn print(counts: &Counts, files: &[String]) {
+    let rows = times(files);
+    head(HEAD);
+    for name in &counts.order {
+        let columns = rows.get(name).unwrap_or_else(|| panic!("no time for the row {name}"));
+        line(name, columns, &counts.of[name]);
+    }
+    assert_eq!(rows.len(), counts.order.len(), "every row that was timed was counted");
+}
+
+fn head(names: &str) {
+    println!("| {names} |");
+    println!("|{}", "---|".repeat(cells(names)));
+}
+
+fn cells(line: &str) -> usize {
+    line.split('|').count()
+}
+
+fn times(files: &[String]) -> HashMap<String, Columns> {
     let mut rows: HashMap<String, Columns> = HashMap::new();
     for file in files {
         let text = fs::read_to_string(file).unwrap_or_else(|e| panic!("{file}: {e}"));
         for line in text.lines() {
             let fields: Vec<&str> = line.split('\t').collect();
-            let name = fields[..3].join(" | ");
-            if !rows.contains_key(&name) {
-                order.push(name.clone());
-            }
-            let columns = rows.entry(name).or_insert_with(|| vec![Vec::new(); fields.len() - 3]);
+            let columns = rows.entry(fields[..3].join(" | ")).or_insert_with(|| vec![Vec::new(); fields.len() - 3]);
             for (column, field) in columns.iter_mut().zip(&fields[3..]) {
                 column.push(field.parse().expect("a line has numbers from its fourth field on"));
             }
         }
     }
-    println!("| Call | Models | Mix | Ours | Rust | Ratio | from, to | Rust, plain | Ratio |");
-    println!("|---|---|---|---|---|---|---|---|---|");
-    order.iter().for_each(|name| line(name, &rows[name]));
+    rows
 }
 
-fn line(name: &str, columns: &Columns) {
+fn line(name: &str, columns: &Columns, counts: &[f64]) {
     let at = |column: usize| median(&columns[column]);
-    let sides = columns.len().div_ceil(2);
+    let sides = counts.len();
+    assert_eq!(columns.len(), 2 * sides - 1, "a time for each side, and a ratio for each but ours");
     let ratios = &columns[sides];
     let least = ratios.iter().copied().fold(f64::INFINITY, f64::min);
     let most = ratios.iter().copied().fold(0.0, f64::max);
-    let plain = if sides == 3 { format!("{:.2} | {:.2}", at(2), at(4)) } else { " | ".to_string() };
-    println!("| {name} | {:.2} | {:.2} | {:.2} | {least:.2}, {most:.2} | {plain} |", at(0), at(1), at(sides));
+    let plain = match counts.get(2) {
+        Some(plain) => format!("{:.2} | {:.2} | {plain:.2}", at(2), at(4)),
+        None => " |  | ".to_string(),
+    };
+    let (ours, rust) = (counts[0], counts[1]);
+    print!("| {name} | {:.2} | {:.2} | {:.2} | {least:.2}, {most:.2} ", at(0), at(1), at(sides));
+    println!("| {ours:.2} | {rust:.2} | {plain} |");
+}
+
+/// A line for each row with the instructions a model, and those that `file` (docs/SPEED.md) has for ours. Hands back how many rows have
+/// more now, or none recorded.
+pub fn hold(counts: &Counts, file: &str) -> usize {
+    let recorded = recorded(file);
+    let mut above = 0;
+    head("Call | Models | Mix | Ours, instr. | Recorded | Change | Rust, instr.");
+    for name in &counts.order {
+        let (ours, rust) = (counts.of[name][0], counts.of[name][1]);
+        let before = recorded.get(name);
+        let change = before.map_or("none | ".to_string(), |b| format!("{b:.2} | {:+.2}%", 100.0 * (ours / b - 1.0)));
+        println!("| {name} | {ours:.2} | {change} | {rust:.2} |");
+        // What is recorded has two decimals.
+        above += usize::from(before.is_none_or(|before| ours > before + 0.005));
+    }
+    above
+}
+
+/// The instructions of ours from a file that has the lines of `print` among others.
+fn recorded(file: &str) -> HashMap<String, f64> {
+    let text = fs::read_to_string(file).unwrap_or_else(|e| panic!("{file}: {e}"));
+    let mut counts = HashMap::new();
+    for line in text.lines() {
+        // Such a line begins and ends with a bar.
+        if let Some(row) =
+            line.strip_prefix('|').and_then(|line| line.strip_suffix('|')).filter(|row| cells(row) == cells(HEAD))
+        {
+            let cells: Vec<&str> = row.split('|').map(str::trim).collect();
+            if let Ok(count) = cells[OURS].parse() {
+                counts.insert(cells[..3].join(" | "), count);
+            }
+        }
+    }
+    counts
 }
