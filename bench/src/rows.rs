@@ -229,12 +229,16 @@ fn validate(order: &str, visit: &mut dyn FnMut(Row)) {
 fn trust(order: &str, visit: &mut dyn FnMut(Row)) {
     let setting = listed(order);
     let (policy, bank) = (policy_bytes(&setting.policy), bank_bytes(&setting.models));
-    let mut lent = bank.clone();
+    // At a multiple of 64: a copy takes more or fewer instructions by where it begins.
+    let mut room = vec![0; bank.len() + 63];
+    let start = room.as_ptr().align_offset(64);
+    let lent = &mut room[start..][..bank.len()];
+    lent.copy_from_slice(&bank);
     let owed = CALLS[TRUST].owed(&CALLS[TRUST].ask(&setting.case(0)));
-    assert!(library::trust(&policy, &mut lent) == owed.word() && lent == owed.bank, "trust isn't answered as owed");
+    assert!(library::trust(&policy, lent) == owed.word() && lent == owed.bank, "trust isn't answered as owed");
     let ours = Box::new(|| {
         lent.copy_from_slice(&bank);
-        black_box(library::trust(&policy, &mut lent));
+        black_box(library::trust(&policy, lent));
     });
     let rust = Box::new(|| drop(black_box(trusted(black_box(&setting)))));
     visit(Row { call: "trust", records: UNIT, mix: order, models: UNIT as f64, sides: vec![ours, rust] });
