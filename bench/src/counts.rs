@@ -24,7 +24,7 @@ pub fn once(only: &str) {
     });
 }
 
-/// The rows in their order, and for each the instructions a model of its sides.
+/// The rows in their order, and for each the instructions a model of its sides, to two decimals as docs/SPEED.md has them.
 pub struct Counts {
     pub order: Vec<String>,
     pub of: HashMap<String, Vec<f64>>,
@@ -44,7 +44,7 @@ pub fn read(lines: &str, parts: &str) -> Counts {
         if !counts.of.contains_key(&name) {
             counts.order.push(name.clone());
         }
-        counts.of.entry(name).or_default().push(total / models);
+        counts.of.entry(name).or_default().push((100.0 * total / models).round() / 100.0);
     }
     counts
 }

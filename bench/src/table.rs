@@ -77,8 +77,7 @@ pub fn hold(counts: &Counts, file: &str) -> usize {
         let before = recorded.get(name);
         let change = before.map_or("none | ".to_string(), |b| format!("{b:.2} | {:+.2}%", 100.0 * (ours / b - 1.0)));
         println!("| {name} | {ours:.2} | {change} | {rust:.2} |");
-        // What is recorded has two decimals.
-        above += usize::from(before.is_none_or(|before| ours > before + 0.005));
+        above += usize::from(before.is_none_or(|before| ours > *before));
     }
     above
 }
@@ -87,15 +86,11 @@ pub fn hold(counts: &Counts, file: &str) -> usize {
 fn recorded(file: &str) -> HashMap<String, f64> {
     let text = fs::read_to_string(file).unwrap_or_else(|e| panic!("{file}: {e}"));
     let mut counts = HashMap::new();
-    for line in text.lines() {
-        // Such a line begins and ends with a bar.
-        if let Some(row) =
-            line.strip_prefix('|').and_then(|line| line.strip_suffix('|')).filter(|row| cells(row) == cells(HEAD))
-        {
-            let cells: Vec<&str> = row.split('|').map(str::trim).collect();
-            if let Ok(count) = cells[OURS].parse() {
-                counts.insert(cells[..3].join(" | "), count);
-            }
+    // Two more than the names, before the first bar and after the last.
+    for line in text.lines().filter(|line| cells(line) == cells(HEAD) + 2) {
+        let cells: Vec<&str> = line.split('|').map(str::trim).collect();
+        if let Ok(count) = cells[1 + OURS].parse() {
+            counts.insert(cells[1..4].join(" | "), count);
         }
     }
     counts
