@@ -53,6 +53,7 @@ fn depth(function: usize, arguments: &[usize]) -> (u64, usize) {
     let arguments_at = top as usize - 8 * ON_STACK - stack.as_ptr() as usize;
     let word = black_box(unsafe { call_on(top, function, &a) });
     let touched = black_box(&stack).iter().position(|&byte| byte != PAINT).expect("a call leaves its return address");
+    assert!(touched > STACK_BYTES / 2, "the stack is large enough");
     (word, arguments_at - touched)
 }
 
