@@ -18,6 +18,7 @@ use Rattle.rules.specs.Stored.{fits, tagOf, bodyLength, afterOf, fieldFaults, f
 use Rattle.rules.specs.Printed.{textUnless, programFaults, askFaults, unitText, askText}
 use Rattle.rules.proofs.Choices.{below-no, equal-yes, equal-no}
 use Rattle.stored.proofs.Reading.{fits-policy, fits-bank, fits-request}
+use Rattle.printed.specs.Sizes.{readBytes}
 
 -- ---- tests that hand back the same first number
 
@@ -135,34 +136,34 @@ second n s h long =
     (λ e. let b = fits-bank _ e in omega (arith, b .0, b .1))
     (λ e. let b = fits-bank _ e in third (n - (3 + bodyLength s)) (afterOf s) (omega (arith, b .0, b .1)) (omega (arith, after-length s, long)))
 
-first : (s : List ℕ) → 65628 ≤ length s → Halted (formFaults (1 ∷ 2 ∷ 3 ∷ []) (take 65628 s)) (formFaults (1 ∷ 2 ∷ 3 ∷ []) s)
+first : (s : List ℕ) → readBytes ≤ length s → Halted (formFaults (1 ∷ 2 ∷ 3 ∷ []) (take readBytes s)) (formFaults (1 ∷ 2 ∷ 3 ∷ []) s)
 first s long =
-    field-step 1 65628 (2 ∷ 3 ∷ []) s long (omega arith) (eqb (tagOf s) 1) (fits 1 (bodyLength s)) refl refl
+    field-step 1 readBytes (2 ∷ 3 ∷ []) s long (omega arith) (eqb (tagOf s) 1) (fits 1 (bodyLength s)) refl refl
     (λ e. omega (arith, fits-policy _ e))
-    (λ e. second (65628 - (3 + bodyLength s)) (afterOf s) (omega (arith, fits-policy _ e)) (omega (arith, after-length s, long)))
+    (λ e. second (readBytes - (3 + bodyLength s)) (afterOf s) (omega (arith, fits-policy _ e)) (omega (arith, after-length s, long)))
 
 -- ---- the answers
 
-program-halted : (s : List ℕ) → 65628 ≤ length s → Halted (programFaults (take 65628 s)) (programFaults s)
+program-halted : (s : List ℕ) → readBytes ≤ length s → Halted (programFaults (take readBytes s)) (programFaults s)
 unfolding programFaults
 program-halted s long = halted-more _ _ (halted-more _ _ (halted-more _ _ (first s long)))
 
-pub ask-halted : (id : ℕ) (s : List ℕ) → 65628 ≤ length s → Halted (askFaults id (take 65628 s)) (askFaults id s)
+pub ask-halted : (id : ℕ) (s : List ℕ) → readBytes ≤ length s → Halted (askFaults id (take readBytes s)) (askFaults id s)
 unfolding askFaults
 ask-halted id s long = halted-more _ _ (program-halted s long)
 
 -- Of any answer: where the input is shorter, its part is all of it
-pub by-length : (answer : List ℕ → List ℕ) (s : List ℕ) → (65628 ≤ length s → answer (take 65628 s) ≡ answer s) → answer (take 65628 s) ≡ answer s
-by-length answer s long = go (decLt (length s) 65628)
+pub by-length : (answer : List ℕ → List ℕ) (s : List ℕ) → (readBytes ≤ length s → answer (take readBytes s) ≡ answer s) → answer (take readBytes s) ≡ answer s
+by-length answer s long = go (decLt (length s) readBytes)
   where
-    go : Dec (length s < 65628) → answer (take 65628 s) ≡ answer s
-    go (yes h) = ap answer (take-long 65628 s (omega arith))
+    go : Dec (length s < readBytes) → answer (take readBytes s) ≡ answer s
+    go (yes h) = ap answer (take-long readBytes s (omega arith))
     go (no h) = long (omega arith)
 
-pub unit-prefix : (input : List ℕ) → unitText (take 65628 input) ≡ unitText input
+pub unit-prefix : (input : List ℕ) → unitText (take readBytes input) ≡ unitText input
 unfolding unitText
 unit-prefix input = by-length unitText input (λ h. halted-text _ _ (program-halted input h))
 
-pub ask-prefix : (id : ℕ) (input : List ℕ) → askText id (take 65628 input) ≡ askText id input
+pub ask-prefix : (id : ℕ) (input : List ℕ) → askText id (take readBytes input) ≡ askText id input
 unfolding askText
 ask-prefix id input = by-length (askText id) input (λ h. halted-text _ _ (ask-halted id input h))
