@@ -1,12 +1,18 @@
--- Document 01 as definitions, in its order. A reader has only these to believe.
+-- Document 01 as definitions, in the order of its sections; sizes, limits and choices by a test come first. A reader has only these to believe.
 pub mod Limits
 pub mod Choice
+-- bytes
 pub mod Bytes
 pub mod Wide
 pub mod Records
+pub mod Stored
+-- numbers handed back
 pub mod Refused
 pub mod Numbers
 pub mod Listing
+pub mod Validate
+pub mod Trust
+-- deciding
 pub mod Gates
 pub mod Price
 pub mod Utility
@@ -16,14 +22,13 @@ pub mod Count
 pub mod Decide
 pub mod Explain
 pub mod Batch
+-- boundaries
 pub mod Halving
 pub mod Levers
 pub mod View
 pub mod Win
 pub mod Margin
-pub mod Validate
-pub mod Trust
-pub mod Stored
+-- what the programs print
 pub mod Text
 pub mod Printed
 pub mod Words
