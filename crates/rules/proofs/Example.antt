@@ -3,9 +3,9 @@ use Prim.Native.Nat.{ℕ, _+_}
 use mathlib.Core.Bool.{Bool}
 use mathlib.Core.List.{List, [], _∷_, _++_}
 use mathlib.Core.Option.{Option, none}
-use lib.IntN.{ℤ}
-use lib.ListN.{length, take, drop}
-use Rattle.rules.specs.Refused.{noFault}
+use lib.IntN.{ℤ, pos}
+use lib.ListN.{length, take, drop, replicate}
+use Rattle.rules.specs.Refused.{noFault, Answer, answered}
 use Rattle.rules.specs.Numbers.{Decision, DecisionAndTrace, Entry, Boundary}
 use Rattle.rules.specs.declared.decision.RejectionHistogram.{RejectionHistogram}
 
@@ -42,6 +42,24 @@ request =
 abbrev pub with : ℕ → List ℕ → List ℕ → List ℕ
 with at bytes s = take at s ++ bytes ++ drop (at + length bytes) s
 
+-- a record with another id
+abbrev pub named : ℕ → List ℕ → List ℕ
+named id s = with 0 (id ∷ []) s
+
+-- the bank with one byte too many
+abbrev pub uneven : List ℕ
+uneven = bank ++ (0 ∷ [])
+
+-- the request with risk 9,000, with confidence 1,999, and with a value of -1
+abbrev pub atHardLimit : List ℕ
+atHardLimit = with 36 (40 ∷ 35 ∷ []) request
+
+abbrev pub unsure : List ℕ
+unsure = with 38 (207 ∷ 7 ∷ []) request
+
+abbrev pub valueless : List ℕ
+valueless = with 20 (replicate 8 255) request
+
 -- a decision, in the order in which it is printed
 abbrev pub decision : ℕ → ℕ → ℕ → ℕ → ℕ → ℕ → ℤ → ℕ → ℤ → ℕ → ℕ → ℕ → ℕ → Decision
 decision a b c d e f g h i j k l m =
@@ -61,6 +79,13 @@ decision a b c d e f g h i j k l m =
       catalogEpoch = m;
     }
 
+-- the example's decision, and a rejection of its request
+abbrev pub choice : Decision
+choice = decision 42 2 2 2 1 300 (pos 6200) 1 (pos 5200) 2 2 7 3
+
+abbrev pub rejected : ℕ → ℕ → Decision
+rejected reason evaluated = decision 42 3 reason 0 65535 0 (pos 0) 0 (pos 0) evaluated 0 7 3
+
 -- the nine counts, in theirs
 abbrev pub counts : ℕ → ℕ → ℕ → ℕ → ℕ → ℕ → ℕ → ℕ → ℕ → RejectionHistogram
 counts a b c d e f g h i =
@@ -79,13 +104,14 @@ counts a b c d e f g h i =
 abbrev pub noCounts : RejectionHistogram
 noCounts = counts 0 0 0 0 0 0 0 0 0
 
--- a decision with its counts, which are of as many models as it says
-abbrev pub counted : Decision → RejectionHistogram → DecisionAndTrace
+-- the answer of a decision with its counts, which are of as many models as it says
+abbrev pub counted : Decision → RejectionHistogram → Answer DecisionAndTrace
 counted d c =
-    record {
+    answered
+    (record {
       decision = d;
       trace = record { rejections = c; «evaluated_models» = d .evaluated; «eligible_models» = d .eligible };
-    }
+    })
 
 abbrev pub lever : ℕ → ℕ → ℕ → Option ℕ → Entry
 lever number current boundary cost = record { lever = number; current = current; boundary = boundary; cost = cost }

@@ -1,5 +1,6 @@
 -- Rows beyond document 01's on validation, trust, the next eligible entry and the batch. Assumes nothing.
 use Prim.Native.Nat.{ℕ}
+use mathlib.Core.Path.{_≡_, refl}
 use mathlib.Core.List.{List, [], _∷_, _++_, map}
 use mathlib.Core.Option.{none, some}
 use lib.IntN.{pos}
@@ -11,77 +12,82 @@ use Rattle.rules.specs.Explain.{nextEligibleOf}
 use Rattle.rules.specs.Batch.{batchOf, batchRow, batchCheckedOf, batchCheckedRow}
 use Rattle.rules.specs.Validate.{validateOf}
 use Rattle.rules.specs.Trust.{trustOf, trustBank}
-use Rattle.rules.proofs.Rows.{Row, says}
-use Rattle.rules.proofs.Example.{modelOne, modelTwo, bank, policy, request, with, decision}
+use Rattle.rules.proofs.Opened.{rules}
+use Rattle.rules.proofs.Rows.{row, Named, Row, says}
+use Rattle.rules.proofs.Example.{modelOne, modelTwo, bank, policy, request, with, named, uneven, valueless, decision, choice, rejected}
 
--- two bytes above 10,000 by so many
+-- the two bytes of 9,984 and so much more: 16 makes 10,000
 abbrev over : ℕ → List ℕ
 over n = n ∷ 39 ∷ []
 
--- a record with another id, provider, quality and ceiling, or enabled
-abbrev named : ℕ → List ℕ → List ℕ
-named id s = with 0 (id ∷ []) s
-
+-- a record with another provider, and switched off
 abbrev from : ℕ → List ℕ → List ℕ
 from provider s = with 4 (provider ∷ []) s
 
 abbrev off : List ℕ → List ℕ
 off s = with 10 (0 ∷ []) s
 
-abbrev validates : List ℕ → List ℕ → Fault → Row
-validates p b f = says (validateOf (policyOf p) b) f
+abbrev validated : List ℕ → List ℕ → Fault
+validated p b = validateOf (policyOf p) b
 
 -- trust: the refusal, and the bank at exit
-abbrev trusts : List ℕ → List ℕ → Fault → List ℕ → Row
-trusts p b f after = says {A = Fault × List ℕ} (trustOf (policyOf p) b, trustBank b) (f, after)
+abbrev trusted : List ℕ → List ℕ → Fault × List ℕ
+trusted p b = (trustOf (policyOf p) b, trustBank b)
 
 -- ---- validation
 
-abbrev pub validationRows : List Row
+validationRows : List Row
+unfolding rules
 validationRows =
-    validates policy bank noFault
-    -- 1 before 10; the limits in their order, each above its own; 10 before 11
-    ∷ validates (with 16 (over 17) policy) (0 ∷ []) (fault 1)
-    ∷ validates (with 16 (over 17 ++ over 18 ++ (81 ∷ 195 ∷ [])) policy) bank (policyFault 4 10001)
-    ∷ validates (with 18 (over 18 ++ (81 ∷ 195 ∷ [])) policy) bank (policyFault 5 10002)
-    ∷ validates (with 20 (81 ∷ 195 ∷ []) policy) bank (policyFault 6 50001)
-    ∷ validates (with 16 (over 16 ++ over 16 ++ (80 ∷ 195 ∷ [])) policy) bank noFault
-    ∷ validates (with 16 (over 17) policy) [] (policyFault 4 10001)
-    ∷ validates policy [] (fault 11)
-    -- record by record: 14 of the first record comes before 13 of the second, and before a repeated id further on
-    ∷ validates policy (with 6 (over 17) modelOne ++ from 64 modelTwo) (modelFault 14 7 1 10001)
-    ∷ validates policy (with 8 (over 17) modelTwo ++ modelOne ++ modelOne) (modelFault 14 8 2 10001)
-    -- within a record: 12, 13, 14 quality, 14 ceiling
-    ∷ validates policy (modelTwo ++ modelOne ++ from 64 modelTwo) (modelFault 12 0 2 0)
-    ∷ validates policy (with 4 (64 ∷ 0 ∷ 17 ∷ 39 ∷ 18 ∷ 39 ∷ []) modelOne) (modelFault 13 0 1 64)
-    ∷ validates policy (with 6 (over 17 ++ over 18) modelOne) (modelFault 14 7 1 10001)
-    ∷ validates policy (with 6 (over 16 ++ over 18) modelOne) (modelFault 14 8 1 10002)
-    ∷ validates policy (with 4 (63 ∷ 0 ∷ []) modelOne) noFault
-    -- 15 comes last; enabled 2 is on, and so is a later record; id 0 is taken
-    ∷ validates policy (off modelOne ++ from 64 (off modelTwo)) (modelFault 13 0 2 64)
-    ∷ validates policy (off modelOne ++ off modelTwo) (fault 15)
-    ∷ validates policy (off modelOne ++ named 0 (with 10 (2 ∷ []) modelTwo)) noFault
+    says "the example is valid" (validated policy bank) noFault refl
+    ∷ says "1 before 10" (validated (with 16 (over 17) policy) (0 ∷ [])) (fault 1) refl
+    ∷ says "hard risk before confidence" (validated (with 16 (over 17 ++ over 18 ++ (81 ∷ 195 ∷ [])) policy) bank) (policyFault 4 10001) refl
+    ∷ says "confidence before multiplier" (validated (with 18 (over 18 ++ (81 ∷ 195 ∷ [])) policy) bank) (policyFault 5 10002) refl
+    ∷ says "a multiplier of 50,001: 10" (validated (with 20 (81 ∷ 195 ∷ []) policy) bank) (policyFault 6 50001) refl
+    ∷ says "each limit at its highest" (validated (with 16 (over 16 ++ over 16 ++ (80 ∷ 195 ∷ [])) policy) bank) noFault refl
+    ∷ says "10 before 11" (validated (with 16 (over 17) policy) []) (policyFault 4 10001) refl
+    ∷ says "an empty catalogue: 11" (validated policy []) (fault 11) refl
+    ∷ says "14 of the first record before 13 of the second" (validated policy (with 6 (over 17) modelOne ++ from 64 modelTwo)) (modelFault 14 7 1 10001) refl
+    ∷ says "14 of the first record before a repeated id" (validated policy (with 8 (over 17) modelTwo ++ modelOne ++ modelOne)) (modelFault 14 8 2 10001) refl
+    ∷ says "12 before 13 of one record" (validated policy (modelTwo ++ modelOne ++ from 64 modelTwo)) (modelFault 12 0 2 0) refl
+    ∷ says "ids 1, 2, 2: 12" (validated policy (modelOne ++ modelTwo ++ modelTwo)) (modelFault 12 0 2 0) refl
+    ∷ says "13 before 14 of one record" (validated policy (with 4 (64 ∷ 0 ∷ 17 ∷ 39 ∷ 18 ∷ 39 ∷ []) modelOne)) (modelFault 13 0 1 64) refl
+    ∷ says "quality before ceiling" (validated policy (with 6 (over 17 ++ over 18) modelOne)) (modelFault 14 7 1 10001) refl
+    ∷ says "a ceiling above 10,000: 14" (validated policy (with 6 (over 16 ++ over 18) modelOne)) (modelFault 14 8 1 10002) refl
+    ∷ says "provider 63" (validated policy (with 4 (63 ∷ 0 ∷ []) modelOne)) noFault refl
+    ∷ says "13 before 15" (validated policy (off modelOne ++ from 64 (off modelTwo))) (modelFault 13 0 2 64) refl
+    ∷ says "all off: 15" (validated policy (off modelOne ++ off modelTwo)) (fault 15) refl
+    ∷ says "a later record with enabled 2 is on, and id 0 is an id" (validated policy (off modelOne ++ named 0 (with 10 (2 ∷ []) modelTwo))) noFault refl
     ∷ []
 
 -- ---- trust
 
-abbrev pub trustRows : List Row
+trustRows : List Row
+unfolding rules
 trustRows =
-    trusts policy (modelTwo ++ modelOne) noFault bank
-    ∷ trusts policy bank noFault bank
-    -- 16 over the whole bank comes before 17, and neither moves a record; 17's record is the first in the old order
-    ∷ trusts policy (named 5 (with 10 (2 ∷ []) modelOne) ++ named 0 modelTwo) (fault 16) (named 5 (with 10 (2 ∷ []) modelOne) ++ named 0 modelTwo)
-    ∷ trusts policy (with 10 (3 ∷ []) modelTwo ++ with 10 (2 ∷ []) modelOne) (modelFault 17 0 2 3) (with 10 (3 ∷ []) modelTwo ++ with 10 (2 ∷ []) modelOne)
-    ∷ trusts policy (0 ∷ []) (fault 1) (0 ∷ [])
-    ∷ trusts policy (named 0 modelOne ++ (0 ∷ [])) (fault 1) (named 0 modelOne ++ (0 ∷ []))
-    -- what validation finds, it finds in the ordered bank, which stays ordered: 10, 11, 12, 15
-    ∷ trusts (with 16 (over 17) policy) (modelTwo ++ modelOne) (policyFault 4 10001) bank
-    ∷ trusts policy [] (fault 11) []
-    ∷ trusts policy (modelTwo ++ modelOne ++ from 3 modelTwo ++ from 4 modelOne) (modelFault 12 0 1 0)
-    (modelOne ++ from 4 modelOne ++ modelTwo ++ from 3 modelTwo)
-    ∷ trusts policy (off modelTwo ++ off modelOne) (fault 15) (off modelOne ++ off modelTwo)
-    -- ids are numbers, not bytes: 256 comes after 2
-    ∷ trusts policy (with 0 (0 ∷ 1 ∷ []) modelOne ++ modelTwo) noFault (modelTwo ++ with 0 (0 ∷ 1 ∷ []) modelOne)
+    says "two records put in order" (trusted policy (modelTwo ++ modelOne)) (noFault, bank) refl
+    ∷ says "two records in order" (trusted policy bank) (noFault, bank) refl
+    ∷ says "16 over the whole bank before 17, and no record is moved"
+    (trusted policy (named 5 (with 10 (2 ∷ []) modelOne) ++ named 0 modelTwo))
+    (fault 16, named 5 (with 10 (2 ∷ []) modelOne) ++ named 0 modelTwo)
+    refl
+    ∷ says "17 of the first record in the old order, and no record is moved"
+    (trusted policy (with 10 (3 ∷ []) modelTwo ++ with 10 (2 ∷ []) modelOne))
+    (modelFault 17 0 2 3, with 10 (3 ∷ []) modelTwo ++ with 10 (2 ∷ []) modelOne)
+    refl
+    ∷ says "one record with enabled 2: 17" (trusted policy (with 10 (2 ∷ []) modelOne)) (modelFault 17 0 1 2, with 10 (2 ∷ []) modelOne) refl
+    ∷ says "one byte: 1" (trusted policy (0 ∷ [])) (fault 1, 0 ∷ []) refl
+    ∷ says "1 before 16" (trusted policy (named 0 modelOne ++ (0 ∷ []))) (fault 1, named 0 modelOne ++ (0 ∷ [])) refl
+    ∷ says "10, after the ordering" (trusted (with 16 (over 17) policy) (modelTwo ++ modelOne)) (policyFault 4 10001, bank) refl
+    ∷ says "11" (trusted policy []) (fault 11, []) refl
+    ∷ says "12 in the ordered bank, equal ids in their old order"
+    (trusted policy (modelTwo ++ modelOne ++ from 3 modelTwo ++ from 4 modelOne))
+    (modelFault 12 0 1 0, modelOne ++ from 4 modelOne ++ modelTwo ++ from 3 modelTwo)
+    refl
+    ∷ says "15, after the ordering" (trusted policy (off modelTwo ++ off modelOne)) (fault 15, off modelOne ++ off modelTwo) refl
+    ∷ says "ids are numbers, not bytes: 256 comes after 2"
+    (trusted policy (with 0 (0 ∷ 1 ∷ []) modelOne ++ modelTwo))
+    (noFault, modelTwo ++ with 0 (0 ∷ 1 ∷ []) modelOne) refl
     ∷ []
 
 -- ---- the next eligible entry
@@ -93,10 +99,13 @@ told verdict = replicate 6 4 ++ (verdict ∷ []) ++ replicate 65 4
 abbrev entries : List ℕ
 entries = told 4 ++ told 3 ++ told 4 ++ take 71 (told 4)
 
-abbrev pub nextRows : List Row
+nextRows : List Row
+unfolding rules
 nextRows =
-    says (map (nextEligibleOf entries) (0 ∷ 1 ∷ 2 ∷ 3 ∷ 4 ∷ [])) (some 0 ∷ some 2 ∷ some 2 ∷ none ∷ none ∷ [])
-    ∷ says (nextEligibleOf [] 0) none
+    says "from each place on; a part of an entry is none" (map (nextEligibleOf entries) (0 ∷ 1 ∷ 2 ∷ 3 ∷ 4 ∷ []))
+    (some 0 ∷ some 2 ∷ some 2 ∷ none ∷ none ∷ [])
+    refl
+    ∷ says "of no entries" (nextEligibleOf [] 0) none refl
     ∷ []
 
 -- ---- the batch
@@ -107,43 +116,29 @@ risky = with 36 (over 17) request
 abbrev poor : List ℕ
 poor = with 40 (over 19) request
 
-abbrev choice : Decision
-choice = decision 42 2 2 2 1 300 (pos 6200) 1 (pos 5200) 2 2 7 3
-
--- a request without value is rejected
-abbrev worthless : List ℕ
-worthless = with 20 (replicate 8 255) request
-
-abbrev refusal : Decision
-refusal = decision 42 3 109 0 65535 0 (pos 0) 0 (pos 0) 2 0 7 3
-
 abbrev old : Decision
 old = decision 1 2 3 4 5 6 (pos 7) 8 (pos 9) 10 11 12 13
 
-abbrev batches : List ℕ → List (List ℕ) → ℕ → Fault → List Decision → Row
-batches b qs room f after =
-    says {A = Fault × List Decision}
-    (batchOf b (map inputOf qs) room, batchRow (policyOf policy) b (map inputOf qs) (replicate room old))
-    (f, after)
+-- a batch, plain or checked: the refusal, and the row at exit, which has so much room
+abbrev plain : List ℕ → List (List ℕ) → ℕ → Fault × List Decision
+plain b qs room = (batchOf b (map inputOf qs) room, batchRow (policyOf policy) b (map inputOf qs) (replicate room old))
 
-abbrev batchesChecked : List ℕ → List (List ℕ) → ℕ → Fault → List Decision → Row
-batchesChecked b qs room f after =
-    says {A = Fault × List Decision}
-    (batchCheckedOf b (map inputOf qs) room, batchCheckedRow (policyOf policy) b (map inputOf qs) (replicate room old))
-    (f, after)
+abbrev checked : List ℕ → List (List ℕ) → ℕ → Fault × List Decision
+checked b qs room = (batchCheckedOf b (map inputOf qs) room, batchCheckedRow (policyOf policy) b (map inputOf qs) (replicate room old))
 
-abbrev pub batchRows : List Row
+batchRows : List Row
+unfolding rules
 batchRows =
-    batches bank (request ∷ worthless ∷ []) 3 noFault (choice ∷ refusal ∷ old ∷ [])
-    ∷ batches bank [] 1 noFault (old ∷ [])
-    -- the plain batch takes what the checked one refuses
-    ∷ batches bank (poor ∷ []) 1 noFault (decision 42 3 103 0 65535 0 (pos 0) 0 (pos 0) 2 0 7 3 ∷ [])
-    -- 1 before 4, 4 before 3
-    ∷ batches (0 ∷ bank) (request ∷ []) 0 (fault 1) []
-    ∷ batches bank (request ∷ worthless ∷ []) 1 (fault 4) (old ∷ [])
-    ∷ batchesChecked bank (request ∷ risky ∷ []) 1 (fault 4) (old ∷ [])
-    -- the first bad request, then the first of its fields; no decision is written
-    ∷ batchesChecked bank (request ∷ poor ∷ risky ∷ []) 3 (inputFault 3 10003 1) (old ∷ old ∷ old ∷ [])
-    ∷ batchesChecked bank (with 36 (over 17 ++ over 18) request ∷ []) 1 (inputFault 1 10001 0) (old ∷ [])
-    ∷ batchesChecked bank (request ∷ []) 2 noFault (choice ∷ old ∷ [])
+    says "two requests, and a row of three" (plain bank (request ∷ valueless ∷ []) 3) (noFault, choice ∷ rejected 109 2 ∷ old ∷ []) refl
+    ∷ says "no request" (plain bank [] 1) (noFault, old ∷ []) refl
+    ∷ says "the plain batch takes what the checked one refuses" (plain bank (poor ∷ []) 1) (noFault, rejected 103 2 ∷ []) refl
+    ∷ says "1 before 4" (plain uneven (request ∷ []) 0) (fault 1, []) refl
+    ∷ says "a row of one for two requests: 4" (plain bank (request ∷ valueless ∷ []) 1) (fault 4, old ∷ []) refl
+    ∷ says "4 before 3" (checked bank (request ∷ risky ∷ []) 1) (fault 4, old ∷ []) refl
+    ∷ says "1 before 3" (checked uneven (risky ∷ []) 1) (fault 1, old ∷ []) refl
+    ∷ says "3 of the first bad request, and no decision is written" (checked bank (request ∷ poor ∷ risky ∷ []) 3)
+    (inputFault 3 10003 1, old ∷ old ∷ old ∷ [])
+    refl
+    ∷ says "3 of the first bad field" (checked bank (with 36 (over 17 ++ over 18) request ∷ []) 1) (inputFault 1 10001 0, old ∷ []) refl
+    ∷ says "one request, checked, and a row of two" (checked bank (request ∷ []) 2) (noFault, choice ∷ old ∷ []) refl
     ∷ []

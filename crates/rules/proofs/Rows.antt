@@ -1,44 +1,48 @@
--- Rows: two values that are to be the same, and a list of them as one statement; and the questions that rows ask, of a bank, a policy and
--- a request in bytes. Assumes nothing.
+-- Rows: a name, what a rule gives, what it is to give, and that the two are the same; and the questions that rows ask, of a bank, a policy
+-- and a request in bytes. Assumes nothing.
 use Prim.Native.Nat.{ℕ}
-use mathlib.Core.Path.{_≡_}
+use Prim.Native.String.{String}
+use mathlib.Core.Path.{_≡_, ap}
 use mathlib.Core.List.{List, [], _∷_}
 use Rattle.rules.specs.Records.{inputOf, policyOf}
-use Rattle.rules.specs.Refused.{Answer, refused, answered, fault}
+use Rattle.rules.specs.Refused.{Answer}
 use Rattle.rules.specs.Numbers.{Decision, DecisionAndTrace, Boundary}
 use Rattle.rules.specs.Decide.{prescribeTracedOf}
 use Rattle.rules.specs.Explain.{explainOf, explainList}
 use Rattle.rules.specs.Win.{whatWouldWinOf}
 use Rattle.rules.specs.Margin.{decisionMarginOf}
 
-pub data Row : Type 1 where
-  says : {A : Type 0} → A → A → Row
+-- A value under the name of its row, so that the prover tells the name where a row fails
+pub data Named (A : Type 0) : Type 0 where
+  row : String → A → Named A
 
+abbrev pub valueIn : {A : Type 0} → Named A → A
+valueIn (row name a) = a
+
+-- A row carries its proof, so that a list of rows is one of rows that hold
+pub data Row : Type 1 where
+  says : (name : String) {A : Type 0} (a b : A) → row name a ≡ row name b → Row
+
+-- The rows of a list as one statement
 abbrev pub All : List Row → Type 0
 All [] = Unit {0}
-All (says a b ∷ rs) = (a ≡ b) × All rs
+All (says name a b same ∷ rs) = (a ≡ b) × All rs
+
+pub all-hold : (rs : List Row) → All rs
+all-hold [] = tt
+all-hold (says name a b same ∷ rs) = (ap valueIn same, all-hold rs)
 
 -- the decision and its counts
-abbrev pub decides : List ℕ → List ℕ → List ℕ → DecisionAndTrace → Row
-decides b p q a = says (prescribeTracedOf (policyOf p) (inputOf q) b) (answered a)
+abbrev pub decided : List ℕ → List ℕ → List ℕ → Answer DecisionAndTrace
+decided b p q = prescribeTracedOf (policyOf p) (inputOf q) b
 
--- the decision, and the caller's list once it is filled
-abbrev pub explains : List ℕ → List ℕ → List ℕ → List ℕ → Decision → List ℕ → Row
-explains b p q list d after =
-    says {A = Answer Decision × List ℕ}
-    (explainOf (policyOf p) (inputOf q) b list, explainList (policyOf p) (inputOf q) b list)
-    (answered d, after)
-
--- a refused explanation, which leaves the list as it was
-abbrev pub refuses : List ℕ → List ℕ → List ℕ → List ℕ → ℕ → Row
-refuses b p q list n =
-    says {A = Answer Decision × List ℕ}
-    (explainOf (policyOf p) (inputOf q) b list, explainList (policyOf p) (inputOf q) b list)
-    (refused (fault n), list)
+-- the decision, and the caller's list at exit
+abbrev pub explained : List ℕ → List ℕ → List ℕ → List ℕ → Answer Decision × List ℕ
+explained b p q list = (explainOf (policyOf p) (inputOf q) b list, explainList (policyOf p) (inputOf q) b list)
 
 -- the boundaries of a model that isn't chosen, and of the one that is
-abbrev pub wouldWin : List ℕ → List ℕ → List ℕ → ℕ → Boundary → Row
-wouldWin b p q id a = says (whatWouldWinOf (policyOf p) (inputOf q) b id) a
+abbrev pub wouldWin : List ℕ → List ℕ → List ℕ → ℕ → Boundary
+wouldWin b p q id = whatWouldWinOf (policyOf p) (inputOf q) b id
 
-abbrev pub margin : List ℕ → List ℕ → List ℕ → Boundary → Row
-margin b p q a = says (decisionMarginOf (policyOf p) (inputOf q) b) a
+abbrev pub margin : List ℕ → List ℕ → List ℕ → Boundary
+margin b p q = decisionMarginOf (policyOf p) (inputOf q) b

@@ -1,13 +1,14 @@
 -- Rows beyond document 01's, for what those leave open: every field of every layout, each gate and what it measured, the order of the
 -- counts and of the reasons, each key of the ranking, the clamps and the refusals. Assumes nothing.
 use Prim.Native.Nat.{ℕ, zero, suc, _+_, _-_, _*_, _^_}
+use mathlib.Core.Path.{_≡_, refl}
 use mathlib.Core.List.{List, [], _∷_, _++_, map}
 use mathlib.Core.Option.{none, some}
 use lib.IntN.{ℤ, pos, negsuc}
 use lib.ListN.{replicate}
 use Rattle.rules.specs.Records.{modelOf, modelBytes, inputOf, inputBytes, policyOf, policyInBytes}
-use Rattle.rules.specs.Refused.{fault, noFault, inputFault, firstFault, lengthFaults, refused, answered}
-use Rattle.rules.specs.Numbers.{Decision, twoNumbers}
+use Rattle.rules.specs.Refused.{fault, noFault, inputFault, firstFault, lengthFaults, Answer, refused, answered}
+use Rattle.rules.specs.Numbers.{twoNumbers}
 use Rattle.rules.specs.Price.{costOf, scaledPrice}
 use Rattle.rules.specs.Utility.{held}
 use Rattle.rules.specs.Verdict.{verdictOf}
@@ -15,39 +16,31 @@ use Rattle.rules.specs.Rank.{Candidate, sorted}
 use Rattle.rules.specs.Count.{dominantOf}
 use Rattle.rules.specs.Listing.{findOf, readingOf, recordOf}
 use Rattle.rules.specs.Decide.{requestCheck, prescribeOf, prescribeCheckedOf, prescribeTracedCheckedOf, utilityForModelOf}
-use Rattle.rules.proofs.Rows.{Row, says, decides, explains, refuses}
-use Rattle.rules.proofs.Example.{bank, modelOne, modelTwo, policy, request, with, decision, counts, noCounts, counted}
-use Rattle.rules.proofs.Literals.{modelBytes47, modelSaid, requestBytes70, requestSaid, policyBytes30, policySaid, fourModels, fourRequest, fourPolicy, fourExplained, passes, gateRequest, gatePolicy}
-
--- the example's request with risk 9,000, and its rejection
-abbrev pub atHardLimit : List ℕ
-atHardLimit = with 36 (40 ∷ 35 ∷ []) request
-
-abbrev pub stopped : Decision
-stopped = decision 42 3 100 0 65535 0 (pos 0) 0 (pos 0) 0 0 7 3
-
--- and with confidence 1,999
-abbrev pub unsure : List ℕ
-unsure = with 38 (207 ∷ 7 ∷ []) request
+use Rattle.rules.proofs.Opened.{rules}
+use Rattle.rules.proofs.Rows.{row, Named, Row, says, decided, explained}
+use Rattle.rules.proofs.Example.{bank, modelOne, modelTwo, policy, request, with, uneven, atHardLimit, unsure}
+use Rattle.rules.proofs.Example.{decision, rejected, counts, noCounts, counted}
+use Rattle.rules.proofs.Literals.{modelBytes47, modelSaid, requestBytes70, requestSaid, policyBytes30, policySaid}
+use Rattle.rules.proofs.Literals.{fourModels, fourRequest, fourPolicy, fourExplained, passes, gateRequest, gatePolicy}
 
 -- ---- bytes: each way, an explanation of each verdict, and one refused
 
-abbrev pub byteRows : List Row
+byteRows : List Row
+unfolding rules
 byteRows =
-    says (modelOf modelBytes47) modelSaid
-    ∷ says (modelBytes modelSaid) modelBytes47
-    ∷ says (inputOf requestBytes70) requestSaid
-    ∷ says (inputBytes requestSaid) requestBytes70
-    ∷ says (policyOf policyBytes30) policySaid
-    ∷ says (policyInBytes policySaid) policyBytes30
-    ∷ explains fourModels fourPolicy fourRequest fourExplained
-    (decision 72623859790382856 2 2 1145258561 3 5261728424987371 (pos 1234605616686861287) 0 (pos 0) 4 1 11 12)
-    fourExplained
-    -- a list one byte short is refused and left alone; 1 comes before 4; a stopped request needs no room
-    ∷ refuses bank policy request (replicate 143 255) 4
-    ∷ refuses (0 ∷ bank) policy request [] 1
-    ∷ explains bank policy atHardLimit [] stopped []
-    ∷ explains bank policy unsure [] (decision 42 3 101 0 65535 0 (pos 0) 0 (pos 0) 0 0 7 3) []
+    says "a model's bytes, read" (modelOf modelBytes47) modelSaid refl
+    ∷ says "a model's bytes, written" (modelBytes modelSaid) modelBytes47 refl
+    ∷ says "a request's bytes, read" (inputOf requestBytes70) requestSaid refl
+    ∷ says "a request's bytes, written" (inputBytes requestSaid) requestBytes70 refl
+    ∷ says "a policy's bytes, read" (policyOf policyBytes30) policySaid refl
+    ∷ says "a policy's bytes, written" (policyInBytes policySaid) policyBytes30 refl
+    ∷ says "an explanation of each verdict" (explained fourModels fourPolicy fourRequest fourExplained)
+    (answered (decision 72623859790382856 2 2 1145258561 3 5261728424987371 (pos 1234605616686861287) 0 (pos 0) 4 1 11 12), fourExplained)
+    refl
+    ∷ says "a list one byte short: 4, and it is left alone" (explained bank policy request (replicate 143 255)) (refused (fault 4), replicate 143 255) refl
+    ∷ says "1 before 4" (explained (0 ∷ bank) policy request []) (refused (fault 1), []) refl
+    ∷ says "a request stopped by 100 needs no room" (explained bank policy atHardLimit []) (answered (rejected 100 0), []) refl
+    ∷ says "a request stopped by 101 needs no room" (explained bank policy unsure []) (answered (rejected 101 0), []) refl
     ∷ []
 
 -- ---- gates, what they measure, and the nine counts
@@ -95,9 +88,11 @@ rejects =
     ++ times 8 over
     ++ times 9 worthless
 
-abbrev pub gateRows : List Row
+gateRows : List Row
+unfolding rules
 gateRows =
-    says (map (λ s. verdictOf (policyOf gatePolicy) (inputOf gateRequest) (modelOf s)) (off ∷ poor ∷ slow ∷ unable ∷ unknown ∷ barred ∷ elsewhere ∷ risky ∷ []))
+    says "each gate, what it measured, and its limit"
+    (map (λ s. verdictOf (policyOf gatePolicy) (inputOf gateRequest) (modelOf s)) (off ∷ poor ∷ slow ∷ unable ∷ unknown ∷ barred ∷ elsewhere ∷ risky ∷ []))
     (twoNumbers 1 1 0 1
     ∷ twoNumbers 1 2 4999 5000
     ∷ twoNumbers 1 3 100 99
@@ -107,33 +102,41 @@ gateRows =
     ∷ twoNumbers 1 7 3 4
     ∷ twoNumbers 1 8 1000 999
     ∷ [])
-    ∷ decides rejects gatePolicy gateRequest (counted (decision 1 3 109 0 65535 0 (pos 0) 0 (pos 0) 45 0 7 3) (counts 1 2 3 4 5 6 7 8 9))
-    ∷ decides (rejects ++ passes) gatePolicy gateRequest
+    refl
+    ∷ says "nine counts" (decided rejects gatePolicy gateRequest)
+    (counted (decision 1 3 109 0 65535 0 (pos 0) 0 (pos 0) 45 0 7 3) (counts 1 2 3 4 5 6 7 8 9))
+    refl
+    ∷ says "nine counts beside an eligible model" (decided (rejects ++ passes) gatePolicy gateRequest)
     (counted (decision 1 1 1 1 45 100 (pos 4900) 0 (pos 0) 46 1 7 3) (counts 1 2 3 4 5 6 7 8 9))
-    -- a mask of all ones lets provider 2 pass; required regions of all ones are met by one common bit, and not by none
-    ∷ says
+    refl
+    ∷ says "all ones: provider 2 passes; a region without a bit fails"
     (map (λ s. verdictOf (policyOf gatePolicy) (inputOf (with 54 (replicate 16 255) gateRequest)) (modelOf s) .gate)
     (barred ∷ with 23 (0 ∷ []) passes ∷ []))
     (0 ∷ 7 ∷ [])
-    -- enabled 2 is on
-    ∷ says (verdictOf (policyOf gatePolicy) (inputOf gateRequest) (modelOf (with 10 (2 ∷ []) passes)) .verdict) 4
+    refl
+    ∷ says "provider 63 passes with a mask of 2 ^ 63"
+    (verdictOf (policyOf gatePolicy) (inputOf (with 54 (replicate 7 0 ++ 128 ∷ []) gateRequest)) (modelOf (with 4 (63 ∷ []) passes)) .gate)
+    0
+    refl
+    ∷ says "enabled 2 is on" (verdictOf (policyOf gatePolicy) (inputOf gateRequest) (modelOf (with 10 (2 ∷ []) passes)) .verdict) 4 refl
     ∷ []
 
 -- ---- ties of the counts: the last of the largest, in document 01's order
 
-abbrev pub reasonRows : List Row
+reasonRows : List Row
+unfolding rules
 reasonRows =
-    says (dominantOf noCounts) 102
-    ∷ says (dominantOf (counts 1 1 1 1 1 1 1 1 1)) 102
-    ∷ says (dominantOf (counts 0 1 1 1 1 1 1 1 1)) 109
-    ∷ says (dominantOf (counts 0 1 1 1 1 1 1 1 0)) 108
-    ∷ says (dominantOf (counts 0 1 1 1 1 1 1 0 0)) 104
-    ∷ says (dominantOf (counts 0 1 1 0 1 1 1 0 0)) 110
-    ∷ says (dominantOf (counts 0 1 0 0 1 1 1 0 0)) 103
-    ∷ says (dominantOf (counts 0 0 0 0 1 1 1 0 0)) 106
-    ∷ says (dominantOf (counts 0 0 0 0 1 0 1 0 0)) 107
-    ∷ says (dominantOf (counts 0 0 0 0 1 0 0 0 0)) 105
-    ∷ says (dominantOf (counts 1 1 1 1 2 1 1 1 1)) 105
+    says "no count: 102" (dominantOf noCounts) 102 refl
+    ∷ says "all nine alike: 102" (dominantOf (counts 1 1 1 1 1 1 1 1 1)) 102 refl
+    ∷ says "the first eight alike: 109" (dominantOf (counts 0 1 1 1 1 1 1 1 1)) 109 refl
+    ∷ says "the first seven alike: 108" (dominantOf (counts 0 1 1 1 1 1 1 1 0)) 108 refl
+    ∷ says "the first six alike: 104" (dominantOf (counts 0 1 1 1 1 1 1 0 0)) 104 refl
+    ∷ says "the first five alike: 110" (dominantOf (counts 0 1 1 0 1 1 1 0 0)) 110 refl
+    ∷ says "the first four alike: 103" (dominantOf (counts 0 1 0 0 1 1 1 0 0)) 103 refl
+    ∷ says "the first three alike: 106" (dominantOf (counts 0 0 0 0 1 1 1 0 0)) 106 refl
+    ∷ says "the first two alike: 107" (dominantOf (counts 0 0 0 0 1 0 1 0 0)) 107 refl
+    ∷ says "the first alone: 105" (dominantOf (counts 0 0 0 0 1 0 0 0 0)) 105 refl
+    ∷ says "the first above all others: 105" (dominantOf (counts 1 1 1 1 2 1 1 1 1)) 105 refl
     ∷ []
 
 -- ---- the five keys, one after the other; and the clamps
@@ -145,9 +148,10 @@ candidate utility cost quality id place = record { utility = utility; cost = cos
 abbrev worthOne : List ℕ
 worthOne = with 12 (replicate 8 0) (with 20 (1 ∷ 0 ∷ []) (with 36 (0 ∷ 0 ∷ []) (with 40 (0 ∷ 0 ∷ []) request)))
 
-abbrev pub rankRows : List Row
+rankRows : List Row
+unfolding rules
 rankRows =
-    says
+    says "the five keys, one after the other"
     (sorted
     (candidate (negsuc 0) 0 9 0 0
     ∷ candidate (pos 5) 3 9 1 1
@@ -165,53 +169,88 @@ rankRows =
     ∷ candidate (pos 5) 3 9 1 1
     ∷ candidate (negsuc 0) 0 9 0 0
     ∷ [])
-    ∷ says (held (pos (2 ^ 63))) (pos (2 ^ 63 - 1))
-    ∷ says (held (pos (2 ^ 63 - 1))) (pos (2 ^ 63 - 1))
-    ∷ says (held (negsuc (2 ^ 63))) (negsuc (2 ^ 63 - 1))
-    ∷ says (held (negsuc (2 ^ 63 - 1))) (negsuc (2 ^ 63 - 1))
-    -- the highest price a million times over costs 2 ^ 64 - 1, and a thousandfold price is held there too
-    ∷ says (costOf (modelOf (with 31 (replicate 8 255) modelOne)) (inputOf (with 12 (replicate 4 255) request))) (2 ^ 64 - 1)
-    ∷ says (scaledPrice (2 ^ 64 - 1) 1000000) (2 ^ 64 - 1)
-    -- a utility of 1 is positive
-    ∷ says (verdictOf (policyOf (with 20 (replicate 10 0) policy)) (inputOf worthOne) (modelOf (with 6 (16 ∷ 39 ∷ []) modelOne)) .verdict) 4
-    -- three utilities held at 2 ^ 63 - 1: the cost decides
-    ∷ decides (with 6 (255 ∷ 255 ∷ []) modelOne ++ with 6 (254 ∷ 255 ∷ []) modelTwo ++ with 0 (3 ∷ []) (with 6 (255 ∷ 255 ∷ []) (with 31 (replicate 8 0) modelOne)))
+    refl
+    ∷ says "2 ^ 63 is held" (held (pos (2 ^ 63))) (pos (2 ^ 63 - 1)) refl
+    ∷ says "2 ^ 63 - 1 stands" (held (pos (2 ^ 63 - 1))) (pos (2 ^ 63 - 1)) refl
+    ∷ says "-2 ^ 63 - 1 is held" (held (negsuc (2 ^ 63))) (negsuc (2 ^ 63 - 1)) refl
+    ∷ says "-2 ^ 63 stands" (held (negsuc (2 ^ 63 - 1))) (negsuc (2 ^ 63 - 1)) refl
+    ∷ says "a cost is held at 2 ^ 64 - 1: the highest price for 2 ^ 32 - 1 tokens"
+    (costOf (modelOf (with 31 (replicate 8 255) modelOne)) (inputOf (with 12 (replicate 4 255) request)))
+    (2 ^ 64 - 1)
+    refl
+    ∷ says "the highest price at a scale of one stands" (scaledPrice (2 ^ 64 - 1) 1000000) (2 ^ 64 - 1) refl
+    ∷ says "the highest price at the next scale is held" (scaledPrice (2 ^ 64 - 1) 1000001) (2 ^ 64 - 1) refl
+    ∷ says "a scaled price is rounded down" (scaledPrice 3 999999) 2 refl
+    ∷ says "a utility of 1 is positive"
+    (verdictOf (policyOf (with 20 (replicate 10 0) policy)) (inputOf worthOne) (modelOf (with 6 (16 ∷ 39 ∷ []) modelOne)) .verdict)
+    4
+    refl
+    -- 1,800 for quality, less 1,000 for risk, 300 for cost and 500 for latency
+    ∷ says "a utility of 0 isn't"
+    (verdictOf (policyOf policy) (inputOf (with 40 (0 ∷ 0 ∷ []) request)) (modelOf (with 6 (8 ∷ 7 ∷ []) modelTwo)) .verdict)
+    3
+    refl
+    ∷ says "a value of -10,000 counts as 0" (decided bank policy (with 20 (240 ∷ 216 ∷ replicate 6 255) request))
+    (counted (rejected 109 2) (counts 0 0 0 0 0 0 0 0 2))
+    refl
+    ∷ says "three utilities held at 2 ^ 63 - 1: the cost decides"
+    (decided
+    (with 6 (255 ∷ 255 ∷ []) modelOne ++ with 6 (254 ∷ 255 ∷ []) modelTwo ++ with 0 (3 ∷ []) (with 6 (255 ∷ 255 ∷ []) (with 31 (replicate 8 0) modelOne)))
     policy
-    (with 20 (replicate 7 255 ++ 127 ∷ []) (with 38 (255 ∷ 255 ∷ []) request))
+    (with 20 (replicate 7 255 ++ 127 ∷ []) (with 38 (255 ∷ 255 ∷ []) request)))
     (counted (decision 42 2 2 2 1 300 (pos 9223372036854775807) 3 (pos 9223372036854775807) 3 3 7 3) noCounts)
-    ∷ says (scaledPrice (2 ^ 64 - 1) 1000001) (2 ^ 64 - 1)
-    ∷ says (scaledPrice 3 999999) 2
+    refl
     ∷ []
 
 -- ---- refusals, and the calls on one model or record
 
-abbrev pub refusalRows : List Row
+-- quality 10,003
+abbrev tooGood : List ℕ
+tooGood = with 40 (19 ∷ 39 ∷ []) request
+
+-- model 1 is priced at this confidence, and not eligible
+abbrev doubtful : List ℕ
+doubtful = with 38 (208 ∷ 7 ∷ []) request
+
+abbrev utilityFor : List ℕ → ℕ → List ℕ → Answer ℤ
+utilityFor q id b = utilityForModelOf (policyOf policy) (inputOf q) id b
+
+refusalRows : List Row
+unfolding rules
 refusalRows =
-    says (lengthFaults (47 * 65535)) []
-    ∷ says (lengthFaults (47 * 65536)) (fault 2 ∷ [])
-    ∷ says (firstFault (lengthFaults (47 * 65536 + 1))) (fault 1)
-    ∷ says (prescribeOf (policyOf policy) (inputOf request) (0 ∷ [])) (refused (fault 1))
-    -- 10,000 is not refused; the risk comes before the confidence, and 1 before 3
-    ∷ says (requestCheck (inputOf request)) noFault
-    ∷ says (requestCheck (inputOf (with 36 (17 ∷ 39 ∷ 18 ∷ 39 ∷ 19 ∷ 39 ∷ []) request))) (inputFault 1 10001 0)
-    ∷ says (requestCheck (inputOf (with 38 (18 ∷ 39 ∷ 19 ∷ 39 ∷ []) request))) (inputFault 2 10002 0)
-    ∷ says (requestCheck (inputOf (with 40 (19 ∷ 39 ∷ []) request))) (inputFault 3 10003 0)
-    ∷ says (prescribeCheckedOf (policyOf policy) (inputOf (with 40 (19 ∷ 39 ∷ []) request)) bank) (refused (inputFault 3 10003 0))
-    ∷ says (prescribeTracedCheckedOf (policyOf policy) (inputOf (with 40 (19 ∷ 39 ∷ []) request)) (0 ∷ [])) (refused (fault 1))
-    ∷ says (findOf 2 bank) (answered (some 1))
-    ∷ says (findOf 1 (modelTwo ++ modelOne ++ modelOne)) (answered (some 1))
-    ∷ says (findOf 3 bank) (answered none)
-    ∷ says (utilityForModelOf (policyOf policy) (inputOf request) 1 bank) (answered (pos 5200))
-    ∷ says (utilityForModelOf (policyOf policy) (inputOf request) 3 bank) (refused (fault 7))
-    ∷ says (utilityForModelOf (policyOf policy) (inputOf atHardLimit) 1 bank) (refused (fault 7))
-    -- priced, but not eligible; eligible, but the request is stopped
-    ∷ says (utilityForModelOf (policyOf policy) (inputOf (with 38 (208 ∷ 7 ∷ []) request)) 1 bank) (refused (fault 7))
-    ∷ says (utilityForModelOf (policyOf (with 20 (0 ∷ 0 ∷ []) policy)) (inputOf atHardLimit) 1 (with 8 (40 ∷ 35 ∷ []) modelOne)) (refused (fault 7))
-    -- its first listed record counts, though a later one is eligible
-    ∷ says (utilityForModelOf (policyOf policy) (inputOf request) 1 (with 10 (0 ∷ []) modelOne ++ modelOne)) (refused (fault 7))
-    ∷ says (readingOf bank 1) noFault
-    ∷ says (recordOf bank 1) modelTwo
-    ∷ says (readingOf bank 2) (fault 8)
-    ∷ says (recordOf bank 2) []
-    ∷ says (recordOf (0 ∷ bank) 0) []
+    says "65,535 records" (lengthFaults (47 * 65535)) [] refl
+    ∷ says "65,536 records: 2" (lengthFaults (47 * 65536)) (fault 2 ∷ []) refl
+    ∷ says "1 before 2" (firstFault (lengthFaults (47 * 65536 + 1))) (fault 1) refl
+    ∷ says "a bank of one byte: 1" (prescribeOf (policyOf policy) (inputOf request) (0 ∷ [])) (refused (fault 1)) refl
+    ∷ says "10,000 is not refused" (requestCheck (inputOf request)) noFault refl
+    ∷ says "the risk comes before the confidence" (requestCheck (inputOf (with 36 (17 ∷ 39 ∷ 18 ∷ 39 ∷ 19 ∷ 39 ∷ []) request))) (inputFault 1 10001 0) refl
+    ∷ says "the confidence comes before the quality" (requestCheck (inputOf (with 38 (18 ∷ 39 ∷ 19 ∷ 39 ∷ []) request))) (inputFault 2 10002 0) refl
+    ∷ says "a minimum quality above 10,000: 3" (requestCheck (inputOf tooGood)) (inputFault 3 10003 0) refl
+    ∷ says "3 of a checked call" (prescribeCheckedOf (policyOf policy) (inputOf tooGood) bank) (refused (inputFault 3 10003 0)) refl
+    ∷ says "1 before 3, checked" (prescribeCheckedOf (policyOf policy) (inputOf tooGood) uneven) (refused (fault 1)) refl
+    ∷ says "1 before 3, traced and checked" (prescribeTracedCheckedOf (policyOf policy) (inputOf tooGood) uneven) (refused (fault 1)) refl
+    ∷ says "an id is found at its place" (findOf 2 bank) (answered (some 1)) refl
+    ∷ says "the first listed record with an id is found" (findOf 1 (modelTwo ++ modelOne ++ modelOne)) (answered (some 1)) refl
+    ∷ says "an id that isn't listed is found nowhere" (findOf 3 bank) (answered none) refl
+    ∷ says "the utility of model 1" (utilityFor request 1 bank) (answered (pos 5200)) refl
+    ∷ says "7: not listed" (utilityFor request 3 bank) (refused (fault 7)) refl
+    ∷ says "7: stopped" (utilityFor atHardLimit 1 bank) (refused (fault 7)) refl
+    ∷ says "7: priced, but not eligible" (utilityFor doubtful 1 bank) (refused (fault 7)) refl
+    ∷ says "7: eligible, but the request is stopped"
+    (utilityForModelOf (policyOf (with 20 (0 ∷ 0 ∷ []) policy)) (inputOf atHardLimit) 1 (with 8 (40 ∷ 35 ∷ []) modelOne))
+    (refused (fault 7))
+    refl
+    ∷ says "7: the first listed record counts, though a later one is eligible"
+    (utilityFor request 1 (with 10 (0 ∷ []) modelOne ++ modelOne))
+    (refused (fault 7))
+    refl
+    ∷ says "1 before each 7" (utilityFor request 3 uneven ∷ utilityFor atHardLimit 1 uneven ∷ utilityFor doubtful 1 uneven ∷ [])
+    (replicate 3 (refused (fault 1)))
+    refl
+    ∷ says "a record is there" (readingOf bank 1) noFault refl
+    ∷ says "its bytes" (recordOf bank 1) modelTwo refl
+    ∷ says "8: beyond the bank" (readingOf bank 2) (fault 8) refl
+    ∷ says "beyond the bank no bytes" (recordOf bank 2) [] refl
+    ∷ says "1 before 8" (readingOf uneven 2) (fault 1) refl
+    ∷ says "of an uneven bank no bytes" (recordOf uneven 0) [] refl
     ∷ []
