@@ -121,7 +121,6 @@ winRows =
     ∷ says "a ceiling of exactly 10,000" (wouldWin modelOne fearless (with 36 (16 ∷ 39 ∷ []) request) 1)
     (boundary 1 (rejected 110 1) false (lever 4 8000 10000 none ∷ noLever ∷ noLever ∷ noLever ∷ []) 1 15)
     refl
-    ∷ says "a ceiling of 10,001 is not tried" (wouldWin modelOne fearless (with 36 (17 ∷ 39 ∷ []) request) 1) (noLevers 1 (rejected 110 1) 5) refl
     -- a range that ended a step before or after 1,000,000 would take a pass more
     ∷ says "a price scale to 1,000,000, by its passes" (wouldWin modelTwo policy (million (34 ∷ 66 ∷ 15 ∷ 0 ∷ [])) 2)
     (boundary 2 (rejected 108 1) false (lever 3 1000000 999970 (some 999970) ∷ noLever ∷ noLever ∷ noLever ∷ []) 1 25)

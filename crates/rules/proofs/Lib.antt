@@ -1,14 +1,4 @@
--- Rows of document 01 and beyond it, by computation, which come first, so that a wrong rule is refused at a row; and the laws that code proofs
--- cite.
-pub mod Opened
-pub mod Rows
-pub mod Example
-pub mod Literals
-pub mod Table
-pub mod Vectors
-pub mod BoundaryRows
-pub mod Loading
-pub mod Printing
+-- Rows and vectors of document 01, by computation, and the laws that code proofs cite.
 pub mod Choices
 pub mod Orders
 pub mod Integers
@@ -22,3 +12,12 @@ pub mod Reasons
 pub mod Counts
 pub mod Layouts
 pub mod Halvings
+pub mod Example
+pub mod Literals
+pub mod Opened
+pub mod Rows
+pub mod Table
+pub mod Vectors
+pub mod BoundaryRows
+pub mod Loading
+pub mod Printing

@@ -38,7 +38,7 @@ byteRows =
     (answered (decision 72623859790382856 2 2 1145258561 3 5261728424987371 (pos 1234605616686861287) 0 (pos 0) 4 1 11 12), fourExplained)
     refl
     ∷ says "a list one byte short: 4, and it is left alone" (explained bank policy request (replicate 143 255)) (refused (fault 4), replicate 143 255) refl
-    ∷ says "1 before 4" (explained (0 ∷ bank) policy request []) (refused (fault 1), []) refl
+    ∷ says "1 before 4" (explained uneven policy request []) (refused (fault 1), []) refl
     ∷ says "a request stopped by 100 needs no room" (explained bank policy atHardLimit []) (answered (rejected 100 0), []) refl
     ∷ says "a request stopped by 101 needs no room" (explained bank policy unsure []) (answered (rejected 101 0), []) refl
     ∷ []
@@ -204,11 +204,11 @@ rankRows =
 
 -- ---- refusals, and the calls on one model or record
 
--- quality 10,003
+-- the request with a minimum quality of 10,003
 abbrev tooGood : List ℕ
 tooGood = with 40 (19 ∷ 39 ∷ []) request
 
--- model 1 is priced at this confidence, and not eligible
+-- and with confidence 2,000, at which model 1 is priced, and not eligible
 abbrev doubtful : List ℕ
 doubtful = with 38 (208 ∷ 7 ∷ []) request
 
