@@ -24,8 +24,7 @@ use Rattle.rules.specs.Win.{winLevers, winSearch, winFor, winIn, whatWouldWinOf
 use Rattle.rules.specs.Margin.{marginLevers, marginFor, marginIn, decisionMarginOf}
 use Rattle.rules.specs.declared.records.KernelInput.{KernelInput}
 use Rattle.rules.specs.declared.records.PolicySnapshot.{PolicySnapshot}
-use Rattle.rules.proofs.Example.{bank, policy, request, lever, noLever, boundary}
-use Rattle.rules.proofs.Table.{choice}
+use Rattle.rules.proofs.Example.{bank, policy, request, choice, lever, noLever, boundary}
 use Rattle.demands.specs.Standing.{UniqueIds}
 use Rattle.demands.specs.Demand3.{question, qualityEntry, latencyEntry, priceEntry, ceilingEntry, ofLever, entriesFor, Unselected, SwitchedOn, winPasses, marginPasses, WinExact, MarginExact}
 use Rattle.demands.proofs.Winning.{what-would-win-exact}
