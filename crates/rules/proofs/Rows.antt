@@ -12,7 +12,8 @@ use Rattle.rules.specs.Explain.{explainOf, explainList}
 use Rattle.rules.specs.Win.{whatWouldWinOf}
 use Rattle.rules.specs.Margin.{decisionMarginOf}
 
--- A value under the name of its row, so that the prover tells the name where a row fails
+-- A value under the name of its row, so that the prover tells the name where a row fails; files with rows bring in what stands here, so that it
+-- is told in short words
 pub data Named (A : Type 0) : Type 0 where
   row : String → A → Named A
 
