@@ -8,14 +8,19 @@ use Rattle.rules.specs.Records.{listedOf}
 use Rattle.rules.specs.Refused.{Faults, bankFaults, noFault, toldRefusal}
 use Rattle.rules.specs.Numbers.{Decision, Boundary}
 use Rattle.rules.specs.Listing.{firstListed, placeOf}
+use Rattle.rules.specs.Decide.{stoppedBy}
 use Rattle.rules.specs.Levers.{Sought, noSearch, boundaryOf, boundaryRefused, boundaryUnless}
 use Rattle.rules.specs.declared.records.KernelInput.{KernelInput}
 use Rattle.rules.specs.declared.records.PolicySnapshot.{PolicySnapshot}
 use Rattle.rules.specs.declared.refusal.Refusal.{Refusal}
 use Rattle.rules.specs.declared.refusal.Outcome.{Outcome}
 use Rattle.rules.specs.declared.refusal.Outcome.the-variants as outcome
+use Rattle.ranking.specs.declared.state.Top.{Top}
+use Rattle.outset.proofs.Finding.{found-at}
 use Rattle.outset.proofs.Refusals.{none-told}
 use Rattle.outset.specs.Refuse.{leading, toldLeading}
+use Rattle.others.specs.Others.{topIn, othersOf}
+use Rattle.others.proofs.Offers.{others-offer}
 use Rattle.searches.specs.Asked.{askedOf, Stands}
 use Rattle.counterfactual.specs.Levers.{Room, emptyRoom, roomOf, boundaryWith}
 use Rattle.searches.specs.declared.pass.Asked.{Asked}
@@ -29,9 +34,13 @@ unfolding leading toldLeading
 boundary-refused [] b e h = let k = sym (ap toldLeading e) ∙ h in cc
 boundary-refused (f ∷ fs) b e h = let k = sym (ap toldLeading e) ∙ h in cc
 
--- THE MODEL THAT WAS FOUND MAY BE ASKED ABOUT
-pub stands-at : {k : Asked} (p : PolicySnapshot) (q : KernelInput) (bank : List ℕ) (id place : ℕ) → k ≡ askedOf p q bank id place → placeOf (firstListed id (listedOf bank)) ≡ some place → bankFaults bank ≡ [] → Stands k bank
-stands-at p q bank id place e first whole = rw e (record { first = first; whole = whole })
+-- THE MODEL THAT WAS FOUND MAY BE ASKED ABOUT, where the request isn't stopped: its rival is the best of the others
+pub stands-at : {k : Asked} {top : Top} (p : PolicySnapshot) (q : KernelInput) (bank : List ℕ) (id place : ℕ)
+    → k ≡ askedOf p q bank id place top → top ≡ topIn p q (listedOf bank)
+    → placeOf (firstListed id (listedOf bank)) ≡ some place → bankFaults bank ≡ [] → stoppedBy p q ≡ 0 → Stands k bank
+stands-at p q bank id place e t first whole free =
+    let best = ap (λ (t : Top). othersOf t place) t ∙ others-offer bank place (found-at bank id place first .1) p q free in
+    rw e (record { first = first; whole = whole; free = free; best = best })
 
 -- ---- an answer by its parts
 

@@ -7,7 +7,7 @@ use mathlib.Core.List.{List}
 use mathlib.Core.Option.{none, some}
 use borrow.Author.Tests.{eq-eqb, ne-eqb}
 use Rattle.rules.specs.Choice.{below}
-use Rattle.rules.specs.Records.{listedOf}
+use Rattle.rules.specs.Records.{listedOf, modelAt}
 use Rattle.rules.specs.Refused.{fault}
 use Rattle.rules.specs.Numbers.{Decision, Entry, reasonNo}
 use Rattle.rules.specs.Listing.{firstListed, placeOf}
@@ -18,10 +18,12 @@ use Rattle.rules.specs.declared.records.KernelInput.{KernelInput}
 use Rattle.rules.specs.declared.records.PolicySnapshot.{PolicySnapshot}
 use Rattle.rules.specs.declared.decision.KernelReason.{KernelReason}
 use Rattle.rules.proofs.Reasons.{reason-some}
+use Rattle.ranking.specs.declared.state.Top.{Top}
 use Rattle.deciding.specs.Stop.{toldStop}
 use Rattle.deciding.specs.declared.stop.Stop.{Stop}
 use Rattle.deciding.specs.declared.stop.Stop.the-variants.{Open, By}
 use Rattle.outset.proofs.Finding.{found-at, found-nothing}
+use Rattle.others.proofs.Opening.{open-free}
 use Rattle.searches.specs.Asked.{askedOf, questionOf}
 use Rattle.searches.specs.declared.pass.Asked.{Asked}
 use Rattle.counterfactual.specs.Levers.{Room, emptyRoom, pushed, roomOf}
@@ -55,17 +57,13 @@ module _ (a : Question) (d : Decision) {s : Stop} (told : toldStop s ≡ stopped
       let n : stoppedBy (a .policy) (a .request) ≡ reasonNo r = sym told ∙ ap toldStop e in
       rw (ne-eqb (stoppedBy (a .policy) (a .request)) 0 (λ z. let h = reason-some r in omega arith))
 
-  open-zero : s ≡ Open → stoppedBy (a .policy) (a .request) ≡ 0
-  unfolding toldStop
-  open-zero e = sym told ∙ ap toldStop e
-
   pub win-selected : s ≡ Open → selects (a .id) d ≡ true → winFor a d ≡ boundaryOf (a .id) d false noSearch
   unfolding winFor
-  win-selected e w = rw (eq-eqb (stoppedBy (a .policy) (a .request)) 0 (open-zero e), w)
+  win-selected e w = rw (eq-eqb (stoppedBy (a .policy) (a .request)) 0 (open-free (a .policy) (a .request) told e), w)
 
   pub win-sought : s ≡ Open → selects (a .id) d ≡ false → winFor a d ≡ boundaryOf (a .id) d false (winSearch a)
   unfolding winFor
-  win-sought e w = rw (eq-eqb (stoppedBy (a .policy) (a .request)) 0 (open-zero e), w)
+  win-sought e w = rw (eq-eqb (stoppedBy (a .policy) (a .request)) 0 (open-free (a .policy) (a .request) told e), w)
 
 -- ---- the id is listed, or not
 
@@ -74,6 +72,17 @@ module _ (p : PolicySnapshot) (q : KernelInput) (bank : List ℕ) (id : ℕ) whe
   unfolding winIn
   win-nowhere e = ap (winIfListed p q (listedOf bank) id) (found-nothing bank id e)
 
-  pub win-listed : {k : Asked} (place : ℕ) → k ≡ askedOf p q bank id place → placeOf (firstListed id (listedOf bank)) ≡ some place → winIn p q (listedOf bank) id ≡ winFor (questionOf k bank) (decisionOf (k .policy) (k .input) (listedOf bank))
-  unfolding winIn questionOf
-  win-listed place e f = rw e (ap (winIfListed p q (listedOf bank) id) (found-at bank id place f .0))
+  -- the question about the record at a place
+  abbrev pub asking : ℕ → Question
+  asking place = record { policy = p; request = q; list = listedOf bank; id = id; model = modelAt bank place }
+
+  pub win-listed : (place : ℕ) → placeOf (firstListed id (listedOf bank)) ≡ some place
+      → winIn p q (listedOf bank) id ≡ winFor (asking place) (decisionOf p q (listedOf bank))
+  unfolding winIn
+  win-listed place f = ap (winIfListed p q (listedOf bank) id) (found-at bank id place f .0)
+
+  -- what is sought for what is asked there
+  pub sought-at : {k : Asked} {t : Room} (place : ℕ) (top : Top) → k ≡ askedOf p q bank id place top
+      → t ≡ roomOf (winSearch (questionOf k bank)) → t ≡ roomOf (winSearch (asking place))
+  unfolding questionOf
+  sought-at place top e f = f ∙ ap (λ (k : Asked). roomOf (winSearch (questionOf k bank))) e

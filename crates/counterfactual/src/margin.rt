@@ -9,7 +9,7 @@ use crate::answer::refused;
 use crate::levers::no_levers;
 use crate::levers::note;
 use crate::levers::note_price;
-use deciding::decide::decide;
+use others::open::opened;
 use outset::listing::first_listed;
 use outset::refuse::bank_outcome;
 use rules::Boundaries;
@@ -45,13 +45,13 @@ fn margin_levers(asked: Asked, bank: &[u8]) -> Levers
     let latency = model.p95_latency_ms as u64;
     let ceiling = model.risk_ceiling_bps as u64;
     let empty = no_levers(1);
-    let by_quality = lowest_true(asked, bank, QUALITY_BPS, 0, quality);
+    let by_quality = lowest_true(asked, QUALITY_BPS, 0, quality);
     let one = note(empty, QUALITY_BPS, quality, by_quality);
-    let by_latency = highest_below(asked, bank, P95_LATENCY_MS, latency, MAX_LATENCY_MS);
+    let by_latency = highest_below(asked, P95_LATENCY_MS, latency, MAX_LATENCY_MS);
     let two = note(one, P95_LATENCY_MS, latency, by_latency);
-    let by_price = highest_below(asked, bank, PRICE_SCALE_PPM, PPM, MAX_PRICE_SCALE_PPM);
+    let by_price = highest_below(asked, PRICE_SCALE_PPM, PPM, MAX_PRICE_SCALE_PPM);
     let three = note_price(two, asked, bank, by_price);
-    let by_ceiling = lowest_above(asked, bank, RISK_CEILING_BPS, 0, ceiling);
+    let by_ceiling = lowest_above(asked, RISK_CEILING_BPS, 0, ceiling);
     note(three, RISK_CEILING_BPS, ceiling, by_ceiling)
 }
 
@@ -64,7 +64,8 @@ pub fn decision_margin(policy: PolicySnapshot, bank: &[u8], input: KernelInput) 
     if let Outcome::Refused(refusal) = outcome {
         return refused(refusal);
     }
-    let decision = decide(policy, bank, input);
+    let opening = opened(policy, bank, input);
+    let decision = opening.decision;
     if decision.is_rejected() {
         return refused(Refusal::NothingSelected);
     }
@@ -73,6 +74,6 @@ pub fn decision_margin(policy: PolicySnapshot, bank: &[u8], input: KernelInput) 
     let Found::At(at) = found else {
         return refused(Refusal::NothingSelected);
     };
-    let asked = asked_at(policy, bank, input, id, at as usize);
+    let asked = asked_at(policy, bank, input, id, at, opening.top);
     answered(id, decision, false, margin_levers(asked, bank))
 }

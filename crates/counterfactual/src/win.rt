@@ -1,9 +1,12 @@
 // What would win: for a model that wasn't selected, the smallest change of one lever after which it is.
 ghost use mathlib.Core.Path.{_≡_};
+ghost use mathlib.Core.List.{[]};
+ghost use mathlib.Core.Option.{some};
 ghost use Rattle.rules.specs.Records.{listedOf};
+ghost use Rattle.rules.specs.Refused.{bankFaults};
+ghost use Rattle.rules.specs.Listing.{firstListed, placeOf};
 ghost use Rattle.rules.specs.Numbers.{toldBoundaries};
-ghost use Rattle.rules.specs.Decide.{decisionOf};
-ghost use Rattle.rules.specs.Win.{winLevers, winSearch, winFor, whatWouldWinOf};
+ghost use Rattle.rules.specs.Win.{winLevers, winSearch, winIn, whatWouldWinOf};
 ghost use Rattle.searches.specs.Asked.{questionOf, Stands};
 ghost use Rattle.counterfactual.specs.Levers.{toldLevers, roomOf};
 use crate::answer::answered;
@@ -13,9 +16,9 @@ use crate::levers::note;
 use crate::levers::note_price;
 use crate::levers::plain;
 use crate::levers::push;
-use deciding::decide::decide;
 use deciding::stop::Stop;
 use deciding::stop::stopped_by;
+use others::open::opened;
 use outset::listing::first_listed;
 use outset::refuse::bank_outcome;
 use rules::Boundaries;
@@ -50,13 +53,13 @@ fn win_levers(asked: Asked, bank: &[u8]) -> Levers
     let latency = model.p95_latency_ms as u64;
     let ceiling = model.risk_ceiling_bps as u64;
     let empty = no_levers(1);
-    let by_quality = lowest_true(asked, bank, QUALITY_BPS, quality, most);
+    let by_quality = lowest_true(asked, QUALITY_BPS, quality, most);
     let one = note(empty, QUALITY_BPS, quality, by_quality);
-    let by_latency = highest_true(asked, bank, P95_LATENCY_MS, 0, latency);
+    let by_latency = highest_true(asked, P95_LATENCY_MS, 0, latency);
     let two = note(one, P95_LATENCY_MS, latency, by_latency);
-    let by_price = highest_true(asked, bank, PRICE_SCALE_PPM, 0, PPM);
+    let by_price = highest_true(asked, PRICE_SCALE_PPM, 0, PPM);
     let three = note_price(two, asked, bank, by_price);
-    let by_ceiling = lowest_true(asked, bank, RISK_CEILING_BPS, ceiling, most);
+    let by_ceiling = lowest_true(asked, RISK_CEILING_BPS, ceiling, most);
     note(three, RISK_CEILING_BPS, ceiling, by_ceiling)
 }
 
@@ -69,28 +72,34 @@ fn win_search(asked: Asked, bank: &[u8]) -> Levers
     if model.enabled != 0 {
         return win_levers(asked, bank);
     }
-    if wins_at(asked, bank, ENABLED, 1) {
+    if wins_at(asked, ENABLED, 1) {
         return push(no_levers(2), plain(ENABLED, 0, 1));
     }
     no_levers(2)
 }
 
-// The answer for a listed id. Nothing is sought where the request is stopped or the id is selected already.
-fn win_for(asked: Asked, bank: &[u8]) -> Boundaries
-    requires { ⌜ Stands asked (now bank) ⌝ }
-    ensures { λ r. ⌜ toldBoundaries r ≡ winFor (questionOf asked (now (bank .entry))) (decisionOf (asked .policy) (asked .input) (listedOf (now (bank .entry)))) ⌝ }
+// The answer for an id whose first listed record has a place. Nothing is sought where the request is stopped or the id is selected already.
+fn win_for(
+    policy: PolicySnapshot,
+    bank: &[u8],
+    input: KernelInput,
+    id: u32,
+    place: u16,
+) -> Boundaries
+    requires { ⌜ (placeOf (firstListed id (listedOf (now bank))) ≡ some place) × (bankFaults (now bank) ≡ []) ⌝ }
+    ensures { λ r. ⌜ toldBoundaries r ≡ winIn policy input (listedOf (now (bank .entry))) id ⌝ }
 {
-    let policy = asked.policy;
-    let input = asked.input;
-    let decision = decide(policy, bank, input);
+    let opening = opened(policy, bank, input);
+    let decision = opening.decision;
     let stop = stopped_by(policy, input);
     if let Stop::By(_) = stop {
-        return answered(asked.id, decision, true, no_levers(1));
+        return answered(id, decision, true, no_levers(1));
     }
-    if selected(decision, asked.id) {
-        return answered(asked.id, decision, false, no_levers(1));
+    if selected(decision, id) {
+        return answered(id, decision, false, no_levers(1));
     }
-    answered(asked.id, decision, false, win_search(asked, bank))
+    let asked = asked_at(policy, bank, input, id, place, opening.top);
+    answered(id, decision, false, win_search(asked, bank))
 }
 
 // `what_would_win`: the levers that would make a model selected, each alone. Refused: 1, 2, then 5 where the id isn't listed.
@@ -110,5 +119,5 @@ pub fn what_would_win(
     let Found::At(at) = found else {
         return refused(Refusal::UnknownModel);
     };
-    win_for(asked_at(policy, bank, input, id, at as usize), bank)
+    win_for(policy, bank, input, id, at)
 }

@@ -21,10 +21,10 @@ use Rattle.rules.specs.Decide.{stoppedBy, rejection, decisionOf, countsIn}
 use Rattle.rules.specs.declared.records.KernelInput.{KernelInput}
 use Rattle.rules.specs.declared.records.PolicySnapshot.{PolicySnapshot}
 use Rattle.rules.proofs.Example.{modelTwo, bank, policy, request, counts, noCounts}
+use Rattle.rules.proofs.Better.{better-not-itself, better-goes-on, better-one-way, neither-better}
 use Rattle.demands.specs.Lists.{Each, Rising, many}
 use Rattle.demands.specs.Ranked.{InOrder, Beats, InStrictOrder, judgedOf, manyAt, DecidedFor, LastLargest}
 use Rattle.demands.specs.Keeping.{betterInRust, two, turn, keptInRust, firstTwo}
-use Rattle.demands.proofs.Better.{better-not-itself, better-goes-on, better-one-way, neither-better}
 use Rattle.demands.proofs.Ranking.{ranking-in-order, ranking-permutes, ranking-counts}
 use Rattle.demands.proofs.Places.{bank-rising, judged-different, ranked-once, ranking-strict, first-beats-rest, second-beats-rest}
 use Rattle.demands.proofs.Decision.{decided-by-first-two, rejected-where-none, chosen-beats-all, counterfactual-beats-others}

@@ -11,11 +11,11 @@ use Rattle.rules.specs.Verdict.{Judged, judge, judged}
 use Rattle.rules.specs.Rank.{Candidate, candidateOf, better, eligibles, ranking}
 use Rattle.rules.specs.declared.records.KernelInput.{KernelInput}
 use Rattle.rules.specs.declared.records.PolicySnapshot.{PolicySnapshot}
+use Rattle.rules.proofs.Better.{better-not-itself, neither-better}
 use Rattle.demands.specs.Lists.{Each}
 use Rattle.demands.specs.Ranked.{InOrder}
 use Rattle.demands.specs.Standing.{Eligible, Chosen}
 use Rattle.demands.proofs.Lists.{each-so, each-member, each-moved}
-use Rattle.demands.proofs.Better.{better-not-itself, neither-better}
 use Rattle.demands.proofs.Ranking.{ranking-in-order, ranking-permutes}
 
 -- ---- the first of the ranking

@@ -4,7 +4,6 @@ pub mod Costs
 pub mod Paths
 pub mod Widths
 pub mod PathsExample
-pub mod Better
 pub mod Lists
 pub mod Ranking
 pub mod Places

@@ -12,9 +12,9 @@ use Rattle.rules.specs.Levers.{selects}
 use Rattle.rules.specs.declared.records.KernelModel.{KernelModel}
 use Rattle.rules.specs.declared.records.KernelInput.{KernelInput}
 use Rattle.rules.specs.declared.records.PolicySnapshot.{PolicySnapshot}
+use Rattle.rules.proofs.Better.{better-not-itself, neither-better, none-above}
 use Rattle.demands.specs.Standing.{Eligible, AsGood, Chosen, Lacks}
 use Rattle.demands.proofs.Lists.{each-member}
-use Rattle.demands.proofs.Better.{better-not-itself, neither-better, none-above}
 use Rattle.demands.proofs.Selected.{selected-chosen, chosen-selected}
 
 -- what does not rank before x does not rank before one that x does not rank before

@@ -16,10 +16,10 @@ use Rattle.rules.specs.Verdict.{Judged, judged}
 use Rattle.rules.specs.Rank.{Candidate, candidateOf, better, eligibles, ranking}
 use Rattle.rules.specs.declared.records.KernelInput.{KernelInput}
 use Rattle.rules.specs.declared.records.PolicySnapshot.{PolicySnapshot}
+use Rattle.rules.proofs.Better.{one-is-better}
 use Rattle.demands.specs.Lists.{Each, Pairs, Rising}
 use Rattle.demands.specs.Ranked.{Beats, InStrictOrder, judgedOf, PlacesRise, PlacesDiffer, manyAt}
 use Rattle.demands.proofs.Lists.{each-so, pairs-both, rising-different, each-member, each-moved, pairs-moved, many-none}
-use Rattle.demands.proofs.Better.{one-is-better}
 use Rattle.demands.proofs.Ranking.{ranking-in-order, ranking-permutes, ranking-counts}
 
 -- ---- the places of a bank

@@ -5,10 +5,10 @@ use mathlib.Core.Bool.{Bool, true, false, cond}
 use mathlib.Core.List.{List, [], _∷_, _++_, foldl, List·Permᴰ, List·Permᴰ·cons, List·Permᴰ·swap, List·Permᴰ·trans, Permᴰ·refl, Permᴰ·symm, Permᴰ·append-left, Permᴰ·middle, Permᴰ·append-nil}
 use Rattle.rules.specs.Verdict.{Judged}
 use Rattle.rules.specs.Rank.{Candidate, better, insert, sorted, eligibles, ranking}
+use Rattle.rules.proofs.Better.{better-one-way, none-above}
 use Rattle.demands.specs.Lists.{Each, many}
 use Rattle.demands.specs.Ranked.{InOrder}
 use Rattle.demands.proofs.Lists.{each-so, each-moved, many-moved}
-use Rattle.demands.proofs.Better.{better-one-way, none-above}
 
 -- ---- a permutation
 

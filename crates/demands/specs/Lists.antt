@@ -1,14 +1,8 @@
 -- Words for lists and tests, over any elements: what the theorems on ranking say.
 use Prim.Native.Nat.{ℕ, _+_, _<_}
 use mathlib.Core.Path.{_≡_}
-use mathlib.Core.Bool.{Bool, true, false, cond}
+use mathlib.Core.Bool.{Bool, cond}
 use mathlib.Core.List.{List, [], _∷_}
-
--- A test that orders strictly: none is before itself, before goes on, and two of which neither is before the other are the same
-pub record Strict {A : Type 0} (before : A → A → Bool) (Same : A → A → Type 0) : Type 0 where
-  pub itself : (a : A) → before a a ≡ false
-  pub goesOn : (a b c : A) → before a b ≡ true → before b c ≡ true → before a c ≡ true
-  pub neither : (a b : A) → before a b ≡ false → before b a ≡ false → Same a b
 
 -- P holds for each of a list
 abbrev pub Each : {A : Type 0} → (A → Type 0) → List A → Type 0

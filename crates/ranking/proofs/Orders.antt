@@ -1,69 +1,22 @@
--- The order of candidates: a better one's rival is not better, and what is better than one that stands before another is better than
--- that. Assumes nothing.
+-- The order of candidates as a scan holds them: strict, by five keys one after the other, and the rules' order. Assumes nothing.
 use Prim.Native.Nat.{ℕ, _+_, _<_, _^_}
-use native.Mathlib.Nat.{eq-or-lt-of-le}
 use native.Mathlib.Omega.{arith}
 use mathlib.Core.Path.{_≡_, refl, sym, _∙_}
-use mathlib.Core.Logic.{_⊎_, inl, inr, ⊎-elim}
-use mathlib.Core.Bool.{Bool, true, false}
+use mathlib.Core.Bool.{Bool, true, false, false≢true}
 use borrow.Author.Tests.{ltb-true, ltb-false, lt-ltb, le-ltb, leb-false}
 use lib.Dec.{ltb}
 use lib.IntN.{ℤ, pos, negsuc}
 use lib.Signed.{leZ}
 use Rattle.rules.specs.Choice.{firstly, lower, higher}
 use Rattle.rules.specs.Rank as rank
-use Rattle.rules.proofs.Choices.{lower-yes, lower-no, lower-level}
+use Rattle.rules.proofs.Choices.{lower-yes}
+use Rattle.rules.proofs.Strict.{Strict, one-way, before-through, numbers, turned, first, level-all}
 use Rattle.pricing.specs.Score.{scored}
 use Rattle.ranking.specs.State.{heldOf, nobody, earlierOf, cheaperOf, betterOf}
 use Rattle.ranking.specs.declared.state.Candidate.{Candidate}
 
--- ---- one key
-
--- Two numbers stand in one of three ways
-order : (a b : ℕ) → (a < b) ⊎ ((a ≡ b) ⊎ (b < a))
-order a b = go (ltb a b) refl
-  where
-    go : (t : Bool) → ltb a b ≡ t → (a < b) ⊎ ((a ≡ b) ⊎ (b < a))
-    go true e = inl (ltb-true a b e)
-    go false e = inr (⊎-elim (λ (h : b ≡ a). inl (sym h)) (λ (h : b < a). inr h) (eq-or-lt-of-le (ltb-false a b e)))
-
 pub clash : {b : Bool} {A : Type 0} → b ≡ true → b ≡ false → A
-clash e f = let z : _≡_ {A = Bool} true false = sym e ∙ f in absurd (never z)
-  where
-    never : true ≡ false → ⊥
-    never z = let w : _≡_ {A = ℕ} 0 1 = cc in omega arith
-
-module _ (a b : ℕ) {r s : Bool} where
-  -- What comes first by a key is not after by it
-  turned : (r ≡ true → s ≡ false) → lower a b r ≡ true → lower b a s ≡ false
-  turned rest e =
-      ⊎-elim
-      (λ (h : a < b). lower-no b a s h)
-      (⊎-elim
-      (λ (h : a ≡ b). lower-level b a s (sym h) ∙ rest (sym (lower-level a b r h) ∙ e))
-      (λ (h : b < a). clash e (lower-no a b r h)))
-      (order a b)
-
-module _ (c x y : ℕ) {r s t : Bool} (rest : r ≡ true → s ≡ false → t ≡ true) where
-  -- c before x, and y not before x: c before y
-  through : lower c x r ≡ true → lower y x s ≡ false → lower c y t ≡ true
-  through e f =
-      ⊎-elim
-      (λ (h : c < x). ⊎-elim (λ (k : x < y). lower-yes c y t (omega arith)) (⊎-elim (λ (k : x ≡ y). lower-yes c y t (omega arith)) (λ (k : y < x). clash (lower-yes y x s k) f)) (order x y))
-      (⊎-elim
-      (λ (h : c ≡ x). ⊎-elim (λ (k : x < y). lower-yes c y t (omega arith)) (⊎-elim (λ (k : x ≡ y). lower-level c y t (h ∙ k) ∙ rest (sym (lower-level c x r h) ∙ e) (sym (lower-level y x s (sym k)) ∙ f)) (λ (k : y < x). clash (lower-yes y x s k) f)) (order x y))
-      (λ (h : x < c). clash e (lower-no c x r h)))
-      (order c x)
-
-  -- the same by the higher of two
-  through-high : lower x c r ≡ true → lower x y s ≡ false → lower y c t ≡ true
-  through-high e f =
-      ⊎-elim
-      (λ (h : x < c). ⊎-elim (λ (k : y < x). lower-yes y c t (omega arith)) (⊎-elim (λ (k : y ≡ x). lower-yes y c t (omega arith)) (λ (k : x < y). clash (lower-yes x y s k) f)) (order y x))
-      (⊎-elim
-      (λ (h : x ≡ c). ⊎-elim (λ (k : y < x). lower-yes y c t (omega arith)) (⊎-elim (λ (k : y ≡ x). lower-level y c t (k ∙ h) ∙ rest (sym (lower-level x c r h) ∙ e) (sym (lower-level x y s (sym k)) ∙ f)) (λ (k : x < y). clash (lower-yes x y s k) f)) (order y x))
-      (λ (h : c < x). clash e (lower-no x c r h)))
-      (order x c)
+clash e f = absurd (false≢true (sym f ∙ e))
 
 -- The last key is its own test
 pub lower-last : (a b : ℕ) → lower a b false ≡ ltb a b
@@ -77,27 +30,38 @@ lower-last a b = go (ltb a b) (ltb b a)
 
 -- ---- all keys
 
-module _ (a b : Candidate) where
-  -- OF TWO, AT MOST ONE IS BETTER
-  pub better-asym : betterOf a b ≡ true → betterOf b a ≡ false
-  unfolding betterOf cheaperOf earlierOf
-  better-asym =
-      turned (b .score) (a .score)
-      (turned (a .cost) (b .cost)
-      (turned (b .«quality_bps») (a .«quality_bps»)
-      (turned (a .«model_id») (b .«model_id»)
-      (turned (a .«model_index») (b .«model_index») (λ e. clash e refl)))))
+-- Two that are level by each key are one candidate
+abbrev Level : Candidate → Candidate → Type 0
+Level a b =
+    (a .score ≡ b .score) × ((a .cost ≡ b .cost) × ((a .«quality_bps» ≡ b .«quality_bps»)
+    × ((a .«model_id» ≡ b .«model_id») × ((a .«model_index» ≡ b .«model_index») × Unit {0}))))
 
-module _ (c x y : Candidate) where
-  -- WHAT IS BETTER THAN THE FIRST IS BETTER THAN THE SECOND
-  pub better-through : betterOf c x ≡ true → betterOf y x ≡ false → betterOf c y ≡ true
-  unfolding betterOf cheaperOf earlierOf
-  better-through =
-      through-high (c .score) (x .score) (y .score)
-      (through (c .cost) (x .cost) (y .cost)
-      (through-high (c .«quality_bps») (x .«quality_bps») (y .«quality_bps»)
-      (through (c .«model_id») (x .«model_id») (y .«model_id»)
-      (through (c .«model_index») (x .«model_index») (y .«model_index») (λ e f. clash e refl)))))
+one : (a b : Candidate) → Level a b → a ≡ b
+one a b k =
+    λ i. record {
+      «model_id» = k .1 .1 .1 .0 i;
+      «model_index» = k .1 .1 .1 .1 .0 i;
+      «quality_bps» = k .1 .1 .0 i;
+      cost = k .1 .0 i;
+      score = k .0 i;
+    }
+
+five : Strict betterOf Level
+unfolding betterOf cheaperOf earlierOf lower
+five =
+    first (λ (c : Candidate). c .score) (turned numbers)
+    (first (λ (c : Candidate). c .cost) numbers
+    (first (λ (c : Candidate). c .«quality_bps») (turned numbers)
+    (first (λ (c : Candidate). c .«model_id») numbers
+    (first (λ (c : Candidate). c .«model_index») numbers level-all))))
+
+-- OF TWO, AT MOST ONE IS BETTER
+pub better-asym : (a b : Candidate) → betterOf a b ≡ true → betterOf b a ≡ false
+better-asym a b = one-way five a b
+
+-- WHAT IS BETTER THAN THE FIRST IS BETTER THAN THE SECOND
+pub better-through : (c x y : Candidate) → betterOf c x ≡ true → betterOf y x ≡ false → betterOf c y ≡ true
+better-through c x y = before-through five one c x y
 
 -- ---- scores
 

@@ -91,9 +91,9 @@ kept-append j cs ds = go (eqb (j .verdict .verdict) 4)
     go true = refl
     go false = refl
 
-eligibles-snoc : (js : List Judged) (j : Judged) → eligibles (js ++ j ∷ []) ≡ eligibles js ++ keep j []
-eligibles-snoc [] j = refl
-eligibles-snoc (x ∷ js) j = rw (eligibles-snoc js j) (kept-append x (eligibles js) (keep j []))
+pub eligibles-append : (js ks : List Judged) → eligibles (js ++ ks) ≡ eligibles js ++ eligibles ks
+eligibles-append [] ks = refl
+eligibles-append (j ∷ js) ks = rw (eligibles-append js ks) (kept-append j (eligibles js) (eligibles ks))
 
 -- what is held after one record more, the test of its verdict being t
 module _ (counts : RejectionHistogram) (es : List Candidate) (c : Candidate) (v : Verdict) where
@@ -114,7 +114,7 @@ module _ (counts : RejectionHistogram) (es : List Candidate) (c : Candidate) (v 
   one-more false e worth holds = rw (append-nil es)
 
 module _ (p : PolicySnapshot) (q : KernelInput) where
-  judged-append : (ls ks : List Listed) → judged p q (ls ++ ks) ≡ judged p q ls ++ judged p q ks
+  pub judged-append : (ls ks : List Listed) → judged p q (ls ++ ks) ≡ judged p q ls ++ judged p q ks
   judged-append ls ks = map-append (judge p q) ls ks
 
   -- ONE RECORD MORE IS ONE STEP
@@ -123,7 +123,7 @@ module _ (p : PolicySnapshot) (q : KernelInput) where
   state-snoc ls l =
       let js = judged p q ls in
       let j = judge p q l in
-      rw (judged-append ls (l ∷ []), judged-snoc js j, eligibles-snoc js j)
+      rw (judged-append ls (l ∷ []), judged-snoc js j, eligibles-append js (j ∷ []))
       (one-more (countsOf js) (eligibles js) (candidateOf j) (j .verdict) (eqb (j .verdict .verdict) 4) refl (verdict-worth p q (l .model)) (ranking-holds p q ls))
 
 -- ---- some records more

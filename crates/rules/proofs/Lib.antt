@@ -12,6 +12,8 @@ pub mod Reasons
 pub mod Counts
 pub mod Layouts
 pub mod Halvings
+pub mod Strict
+pub mod Better
 pub mod Example
 pub mod Literals
 pub mod Opened

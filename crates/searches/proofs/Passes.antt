@@ -1,33 +1,86 @@
--- A pass through a view of the lent bank is the decision with the lever at the value. Assumes nothing.
-use Prim.Native.Nat.{ℕ}
-use mathlib.Core.Path.{_≡_, _∙_}
+-- A pass, by what the others offer, is what the rules say of the bank with the lever at the value; and so is the decision through a view of the
+-- lent bank. Assumes nothing.
+use Prim.Native.Nat.{ℕ, _<_}
+use mathlib.Core.Path.{_≡_, sym, ap, _∙_}
+use mathlib.Core.Bool.{Bool}
 use mathlib.Core.List.{List}
 use native.Mathlib.Omega.{arith}
-use Rattle.rules.specs.Records.{listedOf}
+use lib.ListN.{length, set}
+use Rattle.rules.specs.Records.{listed, listedOf, recordsIn, modelOf, inputOf}
 use Rattle.rules.specs.Refused.{Fault, refused, answered}
 use Rattle.rules.specs.Numbers.{Decision}
 use Rattle.rules.specs.Decide.{decisionOf}
-use Rattle.rules.specs.Levers.{leverAt, decisionAt}
+use Rattle.rules.specs.Halving.{Side, searchOf, searchAfterFarEnd}
+use Rattle.rules.specs.Levers.{leverAt, selects, decisionAt, wins}
 use Rattle.rules.specs.View.{withModel, viewOf}
 use Rattle.rules.specs.declared.records.KernelModel.{KernelModel}
-use Rattle.searches.specs.Asked.{questionOf, Stands}
+use Rattle.rules.specs.declared.boundary.Bound.{Bound}
+use Rattle.pricing.specs.Pricing.{pricingOf}
+use Rattle.pricing.specs.declared.Pricing.{Pricing}
+use Rattle.outset.proofs.Finding.{found-at}
+use Rattle.others.proofs.Offers.{selects-by-others}
+use Rattle.searches.specs.Asked.{winsBy, winsIn, questionOf, Stands}
+use Rattle.searches.specs.Held.{placeIn, idIn, rivalIn, pricingIn, winsOn}
 use Rattle.searches.specs.declared.pass.Asked.{Asked}
 use Rattle.searches.proofs.Varied.{varied-at}
 
-module _ (k : Asked) (bank : List ℕ) (stands : Stands k bank) (m : KernelModel) where
-  -- the view of such a bank decides
-  decides : viewOf (k .policy) (k .input) bank (k .place) m ≡ answered (decisionOf (k .policy) (k .input) (withModel (listedOf bank) (k .place) m))
-  unfolding viewOf
-  decides = rw (stands .whole)
+-- WHAT A HALVING MAKES OF ITS ARRAYS IS WHAT IS ASKED, at every value, where they say it
+pub held-test : (k : Asked) (lever : ℕ) (request varied ns : List ℕ) {pr : Pricing} → inputOf request ≡ k .input → modelOf varied ≡ k .model
+    → (placeIn ns ≡ k .place) × (idIn ns ≡ k .id) × (rivalIn ns ≡ k .rival) × (pricingIn ns ≡ pr) → pr ≡ pricingOf (k .policy) (k .input)
+    → winsOn request varied ns lever ≡ winsIn k lever
+unfolding winsOn winsIn
+held-test k lever request varied ns eq em e settled =
+    λ i v. winsBy ((e .3 ∙ settled) i) (eq i) (em i) (e .0 i) (e .1 i) (e .2 i) lever v
 
-  -- SO IT IS NEVER REFUSED
-  pub pass-answers : {f : Fault} → refused f ≡ viewOf (k .policy) (k .input) bank (k .place) m → ⊥
-  pass-answers e = let h = e ∙ decides in let z : _≡_ {A = ℕ} 0 1 = cc in omega arith
+module _ (k : Asked) (bank : List ℕ) (stands : Stands k bank) where
+  inside : k .place < recordsIn (length bank)
+  inside = found-at bank (k .id) (k .place) (stands .first) .1
 
-  -- AND ITS DECISION is the one that a search asks for
-  pub pass-decides : (lever v : ℕ) {d : Decision} → m ≡ leverAt lever v (k .model) → answered d ≡ viewOf (k .policy) (k .input) bank (k .place) m → d ≡ decisionAt (questionOf k bank) lever v
-  unfolding decisionAt questionOf withModel
-  pass-decides lever v {d} moved e =
-      let h : answered d ≡ answered (decisionOf (k .policy) (k .input) (withModel (listedOf bank) (k .place) m)) = e ∙ decides in
-      let same : d ≡ decisionOf (k .policy) (k .input) (withModel (listedOf bank) (k .place) m) = cc in
-      same ∙ rw (moved, varied-at bank (k .id) (leverAt lever v (k .model)) (k .place) (stands .first))
+  decision-is : (lever v : ℕ) → decisionAt (questionOf k bank) lever v
+      ≡ decisionOf (k .policy) (k .input) (set (listedOf bank) (k .place) (listed (k .place) (leverAt lever v (k .model))))
+  unfolding decisionAt questionOf
+  decision-is lever v = ap (decisionOf (k .policy) (k .input)) (varied-at bank (k .id) (leverAt lever v (k .model)) (k .place) (stands .first))
+
+  -- WHAT WINS IN A SEARCH WINS BY THE RULES
+  wins-at-value : (lever v : ℕ) → winsIn k lever v ≡ wins (questionOf k bank) lever v
+  unfolding winsIn winsBy wins questionOf
+  wins-at-value lever v =
+      rw (stands .best)
+      (sym (ap (selects (k .id)) (decision-is lever v)
+      ∙ selects-by-others bank (k .place) inside (k .policy) (k .input) (stands .free) (leverAt lever v (k .model)) (k .id)))
+
+  -- at every value, so that a search over the one is a search over the other
+  same-test : (lever : ℕ) → winsIn k lever ≡ wins (questionOf k bank) lever
+  same-test lever = λ i v. wins-at-value lever v i
+
+  pub wins-so : (lever v : ℕ) {b : Bool} → b ≡ winsIn k lever v → b ≡ wins (questionOf k bank) lever v
+  wins-so lever v e = e ∙ wins-at-value lever v
+
+  pub searched-so : (s : Side) (lever low high : ℕ) {r : Bound} → r ≡ searchOf s (winsIn k lever) low high
+      → r ≡ searchOf s (wins (questionOf k bank) lever) low high
+  searched-so s lever low high e = e ∙ ap (λ t. searchOf s t low high) (same-test lever)
+
+  pub after-so : (s : Side) (lever low high : ℕ) {r : Bound} → r ≡ searchAfterFarEnd s (winsIn k lever) low high
+      → r ≡ searchAfterFarEnd s (wins (questionOf k bank) lever) low high
+  after-so s lever low high e = e ∙ ap (λ t. searchAfterFarEnd s t low high) (same-test lever)
+
+  -- ---- the decision over the bank
+
+  module _ (m : KernelModel) where
+    -- the view of such a bank decides
+    decides : viewOf (k .policy) (k .input) bank (k .place) m ≡ answered (decisionOf (k .policy) (k .input) (withModel (listedOf bank) (k .place) m))
+    unfolding viewOf
+    decides = rw (stands .whole)
+
+    -- SO IT IS NEVER REFUSED
+    pub pass-answers : {f : Fault} → refused f ≡ viewOf (k .policy) (k .input) bank (k .place) m → ⊥
+    pass-answers e = let h = e ∙ decides in let z : _≡_ {A = ℕ} 0 1 = cc in omega arith
+
+    -- AND ITS DECISION is the one at the value
+    pub pass-decides : (lever v : ℕ) {d : Decision} → m ≡ leverAt lever v (k .model) → answered d ≡ viewOf (k .policy) (k .input) bank (k .place) m
+        → d ≡ decisionAt (questionOf k bank) lever v
+    unfolding withModel
+    pass-decides lever v {d} moved e =
+        let h : answered d ≡ answered (decisionOf (k .policy) (k .input) (withModel (listedOf bank) (k .place) m)) = e ∙ decides in
+        let same : d ≡ decisionOf (k .policy) (k .input) (withModel (listedOf bank) (k .place) m) = cc in
+        same ∙ rw (moved, decision-is lever v)

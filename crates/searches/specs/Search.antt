@@ -1,6 +1,28 @@
--- What a halving and a search come to, in the rules' words.
-use Rattle.rules.specs.Halving as rules
-use Rattle.searches.specs.declared.search.Halved.{Halved}
+-- What a search goes over, and where its halving ends with its passes in one number.
+use Prim.Native.Nat.{ℕ, _+_, _*_, _^_, _≤_, _<_}
+use mathlib.Core.Bool.{Bool, true, false}
+use mathlib.Core.List.{List}
+use Rattle.rules.specs.Halving.{Side, Lowest, Highest, Halved}
+use Rattle.pricing.specs.Pricing.{Settled}
+use Rattle.searches.specs.Lever.{widest}
+use Rattle.searches.specs.Held.{pricingIn}
 
-abbrev pub toldHalved : Halved → rules.Halved
-toldHalved h = record { at = h .at; passes = h .passes }
+-- P3, P4. Which value is looked for
+abbrev pub sideOf : Bool → Side
+sideOf true = Highest
+sideOf false = Lowest
+
+-- Where a halving ended, in the lower 32 bits, and its passes above them
+abbrev pub inOne : Halved → ℕ
+inOne h = h .at + 2 ^ 32 * h .passes
+
+-- A range that a search goes over: the lever's field holds it, and 32 bits do
+pub record Within (lever low high : ℕ) : Type 0 where
+  pub fits : high ≤ widest lever
+  pub lowNarrow : low < 2 ^ 32
+  pub highNarrow : high < 2 ^ 32
+
+-- The same by numbers whose parts belong together
+pub record Over (ns : List ℕ) (lever low high : ℕ) : Type 0 where
+  pub settled : Settled (pricingIn ns)
+  pub within : Within lever low high

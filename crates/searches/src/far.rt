@@ -1,14 +1,25 @@
 // The searches of a margin: the far end is tried first, and where it still wins there is no boundary.
 ghost use mathlib.Core.Path.{_≡_};
 ghost use Prim.Native.Nat.{_+_, _<_, _≤_, _^_};
-ghost use Rattle.rules.specs.Halving.{Lowest, Highest, passesOf, laterBy, searchAfterFarEnd};
-ghost use Rattle.rules.specs.Levers.{wins};
-ghost use Rattle.searches.specs.Asked.{questionOf, Asks};
+ghost use Rattle.rules.specs.Halving.{Lowest, Highest, farEnd, passesOf, laterBy, searchAfterFarEnd};
+ghost use Rattle.searches.specs.Asked.{winsIn};
+ghost use Rattle.searches.specs.Search.{sideOf, Within};
 use crate::pass::Asked;
 use crate::pass::wins_at;
-use crate::search::highest_true;
-use crate::search::lowest_true;
+use crate::search::HIGHEST;
+use crate::search::LOWEST;
+use crate::search::searched;
 use rules::Bound;
+
+// The least favourable end.
+fn far_end(highest: bool, low: u64, high: u64) -> u64
+    ensures { λ r. ⌜ r ≡ farEnd (sideOf highest) low high ⌝ }
+{
+    if highest {
+        return high;
+    }
+    low
+}
 
 // What was found, one pass later.
 fn one_later(found: Bound) -> Bound
@@ -21,24 +32,30 @@ fn one_later(found: Bound) -> Bound
     }
 }
 
-// The lowest value from low to high that wins, where the low end doesn't.
-pub fn lowest_above(asked: Asked, bank: &[u8], lever: u8, low: u64, high: u64) -> Bound
-    requires { ⌜ (low ≤ high) × Asks asked (now bank) lever high ⌝ }
-    ensures { λ r. ⌜ r ≡ searchAfterFarEnd Lowest (wins (questionOf asked (now (bank .entry))) lever) low high ⌝ }
+// The search after the far end.
+fn searched_after(asked: Asked, lever: u8, highest: bool, low: u64, high: u64) -> Bound
+    requires { ⌜ (low ≤ high) × Within lever low high ⌝ }
+    ensures { λ r. ⌜ r ≡ searchAfterFarEnd (sideOf highest) (winsIn asked lever) low high ⌝ }
 {
-    if wins_at(asked, bank, lever, low) {
+    let far = far_end(highest, low, high);
+    if wins_at(asked, lever, far) {
         return Bound::Nothing(1);
     }
-    one_later(lowest_true(asked, bank, lever, low, high))
+    one_later(searched(asked, lever, highest, low, high))
+}
+
+// The lowest value from low to high that wins, where the low end doesn't.
+pub fn lowest_above(asked: Asked, lever: u8, low: u64, high: u64) -> Bound
+    requires { ⌜ (low ≤ high) × Within lever low high ⌝ }
+    ensures { λ r. ⌜ r ≡ searchAfterFarEnd Lowest (winsIn asked lever) low high ⌝ }
+{
+    searched_after(asked, lever, LOWEST, low, high)
 }
 
 // The highest value from low to high that wins, where the high end doesn't.
-pub fn highest_below(asked: Asked, bank: &[u8], lever: u8, low: u64, high: u64) -> Bound
-    requires { ⌜ Asks asked (now bank) lever high ⌝ }
-    ensures { λ r. ⌜ r ≡ searchAfterFarEnd Highest (wins (questionOf asked (now (bank .entry))) lever) low high ⌝ }
+pub fn highest_below(asked: Asked, lever: u8, low: u64, high: u64) -> Bound
+    requires { ⌜ (low ≤ high) × Within lever low high ⌝ }
+    ensures { λ r. ⌜ r ≡ searchAfterFarEnd Highest (winsIn asked lever) low high ⌝ }
 {
-    if wins_at(asked, bank, lever, high) {
-        return Bound::Nothing(1);
-    }
-    one_later(highest_true(asked, bank, lever, low, high))
+    searched_after(asked, lever, HIGHEST, low, high)
 }

@@ -1,49 +1,60 @@
-// One pass: the decision over the whole bank with a lever of one model at a value. The bank is lent, and asked through a view; nothing is
-// copied but the 47 bytes of the record that stands in.
+// What a search asks about, and one pass of it: whether the decision with a lever at a value selects the model, by the verdict on that model and
+// one comparison with the best of the others. Only where a decision's cost is told is it made over the whole bank.
 ghost use mathlib.Core.Path.{_≡_};
-ghost use Prim.Native.Nat.{_<_};
+ghost use Prim.Native.Nat.{_≤_, _<_};
 ghost use lib.ListN.{length};
 ghost use Rattle.rules.specs.Records.{recordsIn};
 ghost use Rattle.rules.specs.Numbers.{toldDecision};
-ghost use Rattle.rules.specs.Levers.{selects, decisionAt, wins};
-ghost use Rattle.searches.specs.Asked.{askedOf, questionOf, Asks};
+ghost use Rattle.rules.specs.Levers.{selects, decisionAt};
+ghost use Rattle.searches.specs.Lever.{widest};
+ghost use Rattle.searches.specs.Asked.{askedOf, questionOf, winsIn, Asks};
 use crate::lever::lever_at;
 use bank::unchecked::model_at;
+use others::rival::best_with;
+use others::rival::has_id;
+use others::rival::others_best;
+use ranking::state::Candidate;
+use ranking::state::Top;
 use rules::KernelDecision;
 use rules::KernelInput;
 use rules::KernelModel;
 use rules::PolicySnapshot;
 use rules::Prescribed;
 use rules::decision::NO_DECISION;
+use scan::pricing_for;
 use view::decided;
 
-// What a search asks about: policy and request, and the model that is varied, with its id and its place in the bank.
+// Policy and request, the model that is varied with its id and its place in the bank, and the best of the other records.
 pub struct Asked {
     pub policy: PolicySnapshot,
     pub input: KernelInput,
     pub id: u32,
-    pub place: usize,
+    pub place: u16,
     pub model: KernelModel,
+    pub rival: Candidate,
 }
 
-// The model at a place, asked about under an id.
+// The model at a place, asked about under an id, where the opening decision was made from these best two.
 pub fn asked_at(
     policy: PolicySnapshot,
     bank: &[u8],
     input: KernelInput,
     id: u32,
-    place: usize,
+    place: u16,
+    top: Top,
 ) -> Asked
     requires { ⌜ place < recordsIn (length (now bank)) ⌝ }
-    ensures { λ r. ⌜ r ≡ askedOf policy input (now (bank .entry)) id place ⌝ }
+    ensures { λ r. ⌜ r ≡ askedOf policy input (now (bank .entry)) id place top ⌝ }
 {
-    let model = model_at(bank, place);
+    let model = model_at(bank, place as usize);
+    let rival = others_best(top, place);
     Asked {
         policy,
         input,
         id,
         place,
         model,
+        rival,
     }
 }
 
@@ -54,7 +65,19 @@ pub fn selected(decision: KernelDecision, id: u32) -> bool
     decision.is_executable() && decision.selected_model_id == id
 }
 
-// The decision with a lever at a value.
+// Whether the decision with a lever at a value selects the model's id.
+pub fn wins_at(asked: Asked, lever: u8, value: u64) -> bool
+    requires { ⌜ value ≤ widest lever ⌝ }
+    ensures { λ r. ⌜ r ≡ winsIn asked lever value ⌝ }
+{
+    let input = asked.input;
+    let pricing = pricing_for(asked.policy, input);
+    let model = lever_at(asked.model, lever, value);
+    let best = best_with(asked.rival, asked.place, model, pricing, input);
+    has_id(best, asked.id)
+}
+
+// The decision with a lever at a value, over the bank: through a view, with a stand-in of 47 bytes.
 pub fn decision_at(asked: Asked, bank: &[u8], lever: u8, value: u64) -> KernelDecision
     requires { ⌜ Asks asked (now bank) lever value ⌝ }
     ensures { λ r. ⌜ toldDecision r ≡ decisionAt (questionOf asked (now (bank .entry))) lever value ⌝ }
@@ -62,19 +85,10 @@ pub fn decision_at(asked: Asked, bank: &[u8], lever: u8, value: u64) -> KernelDe
     let policy = asked.policy;
     let input = asked.input;
     let model = asked.model;
-    let place = asked.place;
+    let place = asked.place as usize;
     match decided(policy, bank, input, place, lever_at(model, lever, value)) {
         Prescribed::Decided(decision) => decision,
         // The calls above refuse such a bank before they search.
         Prescribed::Refused(_) => NO_DECISION,
     }
-}
-
-// Whether it selects the model's id.
-pub fn wins_at(asked: Asked, bank: &[u8], lever: u8, value: u64) -> bool
-    requires { ⌜ Asks asked (now bank) lever value ⌝ }
-    ensures { λ r. ⌜ r ≡ wins (questionOf asked (now (bank .entry))) lever value ⌝ }
-{
-    let decision = decision_at(asked, bank, lever, value);
-    selected(decision, asked.id)
 }

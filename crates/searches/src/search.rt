@@ -1,104 +1,152 @@
-// The searches of `counterfactual.rs` by halving, a lever given by its number. Each calls itself on the half that it keeps.
+// The searches of `counterfactual.rs` by halving, a lever given by its number. The halving calls itself on the half that it keeps, with
+// pointers and numbers alone, and answers one number: so it is compiled to a loop, and a step takes no stack.
 ghost use mathlib.Core.Path.{_≡_};
 ghost use Prim.Native.Nat.{_+_, _<_, _≤_, _^_};
-ghost use Rattle.rules.specs.Halving.{Lowest, Highest, middle, onePass, halve, searchOf};
-ghost use Rattle.rules.specs.Levers.{wins};
-ghost use Rattle.searches.specs.Asked.{questionOf, Asks};
-ghost use Rattle.searches.specs.Search.{toldHalved};
+ghost use Rattle.rules.specs.Halving.{Lowest, Highest, firstTried, middle, keptLow, keptHigh, halve, searchOf};
+ghost use Rattle.searches.specs.Asked.{winsIn};
+ghost use Rattle.searches.specs.Held.{winsOn};
+ghost use Rattle.searches.specs.Search.{sideOf, inOne, Within, Over};
+use crate::held::Held;
+use crate::held::held_of;
+use crate::held::model_held;
+use crate::held::request_held;
+use crate::held::wins_on;
 use crate::pass::Asked;
 use crate::pass::wins_at;
 use rules::Bound;
+use rules::limits::ModelBytes;
+use rules::limits::RequestBytes;
+use scan::pricing_for;
 
-// Where a halving ended, and the passes that it made.
-pub struct Halved {
-    pub at: u64,
-    pub passes: u64,
-}
+// Which value is looked for.
+pub const LOWEST: bool = false;
 
-// The middle of a range, rounded down.
-fn middle_down(low: u64, high: u64) -> u64
+pub const HIGHEST: bool = true;
+
+// One pass in a number whose lower 32 bits say where a halving ends.
+const ONE_PASS: u64 = 0x1_0000_0000;
+
+// The middle of a range: rounded up for the highest, with no sum that could pass 64 bits, and down for the lowest.
+fn middle(highest: bool, low: u64, high: u64) -> u64
     requires { ⌜ low ≤ high ⌝ }
-    ensures { λ r. ⌜ r ≡ middle Lowest low high ⌝ }
+    ensures { λ r. ⌜ r ≡ middle (sideOf highest) low high ⌝ }
 {
+    if highest {
+        return high - (high - low) / 2;
+    }
     low + (high - low) / 2
 }
 
-// Rounded up, with no sum that could pass 64 bits.
-fn middle_up(low: u64, high: u64) -> u64
-    requires { ⌜ low ≤ high ⌝ }
-    ensures { λ r. ⌜ r ≡ middle Highest low high ⌝ }
+// The low end of the half that is kept.
+fn kept_low(highest: bool, won: bool, low: u64, mid: u64) -> u64
+    requires { ⌜ mid + 1 < 2 ^ 64 ⌝ }
+    ensures { λ r. ⌜ r ≡ keptLow (sideOf highest) won low mid ⌝ }
 {
-    high - (high - low) / 2
-}
-
-// With one pass more.
-fn one_pass(halved: Halved) -> Halved
-    requires { ⌜ halved .passes + 1 < 2 ^ 64 ⌝ }
-    ensures { λ r. ⌜ toldHalved r ≡ onePass (toldHalved halved) ⌝ }
-{
-    let passes = halved.passes + 1;
-    Halved {
-        at: halved.at,
-        passes,
+    if highest {
+        if won {
+            return mid;
+        }
+        return low;
     }
+    if won {
+        return low;
+    }
+    mid + 1
 }
 
-// The halving for the lowest value that wins, where the high end does.
-fn lowest_from(asked: Asked, bank: &[u8], lever: u8, low: u64, high: u64) -> Halved
-    requires { ⌜ Asks asked (now bank) lever high ⌝ }
-    ensures { λ r. ⌜ toldHalved r ≡ halve Lowest (wins (questionOf asked (now (bank .entry))) lever) low high ⌝ }
+// Its high end.
+fn kept_high(highest: bool, won: bool, mid: u64, high: u64) -> u64
+    ensures { λ r. ⌜ r ≡ keptHigh (sideOf highest) won mid high ⌝ }
+{
+    if highest {
+        if won {
+            return high;
+        }
+        if mid == 0 {
+            return 0;
+        }
+        return mid - 1;
+    }
+    if won {
+        return mid;
+    }
+    high
+}
+
+// The halving, where the end tried first wins.
+fn halved_from(
+    request: &RequestBytes,
+    varied: &ModelBytes,
+    held: &Held,
+    lever: u8,
+    highest: bool,
+    low: u64,
+    high: u64,
+) -> u64
+    requires { ⌜ Over (now held) lever low high ⌝ }
+    ensures { λ r. ⌜ r ≡ inOne (halve (sideOf highest) (winsOn (now (request .entry)) (now (varied .entry)) (now (held .entry)) lever) low high) ⌝ }
 {
     if high <= low {
-        return Halved { at: low, passes: 0 };
+        return low;
     }
-    let mid = middle_down(low, high);
-    if wins_at(asked, bank, lever, mid) {
-        return one_pass(lowest_from(asked, bank, lever, low, mid));
-    }
-    one_pass(lowest_from(asked, bank, lever, mid + 1, high))
+    let mid = middle(highest, low, high);
+    let won = wins_on(request, varied, held, lever, mid);
+    let next = kept_low(highest, won, low, mid);
+    let last = kept_high(highest, won, mid, high);
+    let found = halved_from(request, varied, held, lever, highest, next, last);
+    found + ONE_PASS
 }
 
-// The halving for the highest value that wins, where the low end does.
-fn highest_from(asked: Asked, bank: &[u8], lever: u8, low: u64, high: u64) -> Halved
-    requires { ⌜ Asks asked (now bank) lever high ⌝ }
-    ensures { λ r. ⌜ toldHalved r ≡ halve Highest (wins (questionOf asked (now (bank .entry))) lever) low high ⌝ }
+// The same for what is asked.
+fn halved(asked: Asked, lever: u8, highest: bool, low: u64, high: u64) -> u64
+    requires { ⌜ Within lever low high ⌝ }
+    ensures { λ r. ⌜ r ≡ inOne (halve (sideOf highest) (winsIn asked lever) low high) ⌝ }
 {
-    if high <= low {
-        return Halved { at: low, passes: 0 };
-    }
-    let mid = middle_up(low, high);
-    if wins_at(asked, bank, lever, mid) {
-        return one_pass(highest_from(asked, bank, lever, mid, high));
-    }
-    one_pass(highest_from(asked, bank, lever, low, mid - 1))
+    let pricing = pricing_for(asked.policy, asked.input);
+    let request = request_held(asked.input);
+    let varied = model_held(asked.model);
+    let held = held_of(asked.place, asked.id, asked.rival, pricing);
+    halved_from(&request, &varied, &held, lever, highest, low, high)
 }
 
-// `lowest_true`: the lowest value from low to high that wins, with its passes. The high end is tried first; an empty range takes no pass.
-pub fn lowest_true(asked: Asked, bank: &[u8], lever: u8, low: u64, high: u64) -> Bound
-    requires { ⌜ Asks asked (now bank) lever high ⌝ }
-    ensures { λ r. ⌜ r ≡ searchOf Lowest (wins (questionOf asked (now (bank .entry))) lever) low high ⌝ }
+// The end that is tried first: the favourable one.
+fn first_tried(highest: bool, low: u64, high: u64) -> u64
+    ensures { λ r. ⌜ r ≡ firstTried (sideOf highest) low high ⌝ }
+{
+    if highest {
+        return low;
+    }
+    high
+}
+
+// The lowest or the highest value from low to high that wins, with its passes. An empty range takes none.
+pub(crate) fn searched(asked: Asked, lever: u8, highest: bool, low: u64, high: u64) -> Bound
+    requires { ⌜ Within lever low high ⌝ }
+    ensures { λ r. ⌜ r ≡ searchOf (sideOf highest) (winsIn asked lever) low high ⌝ }
 {
     if high < low {
         return Bound::Nothing(0);
     }
-    if wins_at(asked, bank, lever, high) {
-        let found = one_pass(lowest_from(asked, bank, lever, low, high));
-        return Bound::At(found.at, found.passes);
+    let first = first_tried(highest, low, high);
+    if wins_at(asked, lever, first) {
+        let found = halved(asked, lever, highest, low, high);
+        return Bound::At(found % ONE_PASS, found / ONE_PASS + 1);
     }
     Bound::Nothing(1)
+}
+
+// `lowest_true`: the lowest value from low to high that wins, with its passes. The high end is tried first.
+pub fn lowest_true(asked: Asked, lever: u8, low: u64, high: u64) -> Bound
+    requires { ⌜ Within lever low high ⌝ }
+    ensures { λ r. ⌜ r ≡ searchOf Lowest (winsIn asked lever) low high ⌝ }
+{
+    searched(asked, lever, LOWEST, low, high)
 }
 
 // `highest_true`: the highest value from low to high that wins. The low end is tried first.
-pub fn highest_true(asked: Asked, bank: &[u8], lever: u8, low: u64, high: u64) -> Bound
-    requires { ⌜ Asks asked (now bank) lever high ⌝ }
-    ensures { λ r. ⌜ r ≡ searchOf Highest (wins (questionOf asked (now (bank .entry))) lever) low high ⌝ }
+pub fn highest_true(asked: Asked, lever: u8, low: u64, high: u64) -> Bound
+    requires { ⌜ Within lever low high ⌝ }
+    ensures { λ r. ⌜ r ≡ searchOf Highest (winsIn asked lever) low high ⌝ }
 {
-    if high < low {
-        return Bound::Nothing(0);
-    }
-    if wins_at(asked, bank, lever, low) {
-        let found = one_pass(highest_from(asked, bank, lever, low, high));
-        return Bound::At(found.at, found.passes);
-    }
-    Bound::Nothing(1)
+    searched(asked, lever, HIGHEST, low, high)
 }

@@ -2,7 +2,6 @@
 use Prim.Native.Nat.{ℕ, _+_, _*_, _≤_, _<_}
 use native.Mathlib.Omega.{arith}
 use native.Mathlib.Nat.{zero-add}
-use mathlib.Core.Bool.{Bool}
 use mathlib.Core.List.{List, _++_, append-assoc}
 use mathlib.Core.Path.{_≡_, refl, sym, _∙_}
 use lib.ListN.{length, take, drop, length-append, length-drop}
@@ -12,7 +11,7 @@ use Rattle.rules.specs.Limits.{recordBytes}
 use Rattle.rules.specs.Records.{listedOf, modelLayout, modelNumbers, modelBytes, recordsIn}
 use Rattle.rules.specs.Numbers.{toldPrescribed}
 use Rattle.rules.specs.Decide.{prescribeOf}
-use Rattle.rules.specs.View.{withModel, viewOf, selectsIn}
+use Rattle.rules.specs.View.{withModel, viewOf}
 use Rattle.rules.specs.declared.records.KernelModel.{KernelModel}
 use Rattle.rules.specs.declared.records.KernelInput.{KernelInput}
 use Rattle.rules.specs.declared.records.PolicySnapshot.{PolicySnapshot}
@@ -34,10 +33,6 @@ module _ (p : PolicySnapshot) (q : KernelInput) (bank : List ℕ) (index : ℕ) 
   -- `view_decide` and `decided`
   pub one-decided : (r s : Prescribed) → toldPrescribed r ≡ viewOf p q bank index m → toldPrescribed s ≡ viewOf p q bank index m → r ≡ s
   one-decided = one-prescribed _
-
-  -- `view_selects` and `selected`
-  pub one-selected : (id : ℕ) (r s : Bool) → r ≡ selectsIn id (viewOf p q bank index m) → s ≡ selectsIn id (viewOf p q bank index m) → r ≡ s
-  one-selected id r s e f = e ∙ sym f
 
 -- The bank with the bytes of a model in the stead of the record at an index
 abbrev pub replaced : List ℕ → ℕ → KernelModel → List ℕ

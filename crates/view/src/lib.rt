@@ -7,7 +7,7 @@ ghost use Rattle.rules.specs.Limits.{maxCatalogModels};
 ghost use Rattle.rules.specs.Records.{recordsIn, listedOf};
 ghost use Rattle.rules.specs.Numbers.{toldDecision, toldPrescribed};
 ghost use Rattle.rules.specs.Decide.{decisionOf};
-ghost use Rattle.rules.specs.View.{withModel, viewOf, selectsIn};
+ghost use Rattle.rules.specs.View.{withModel, viewOf};
 use deciding::decide::decide;
 use deciding::stand::decide_with;
 use outset::refuse::bank_outcome;
@@ -62,30 +62,6 @@ fn decide_at(
     Prescribed::Decided(decide_in(policy, bank, input, index, model))
 }
 
-// Whether an answer selects an id. A rejection selects none, and neither does a refusal.
-fn selects(prescribed: Prescribed, id: u32) -> bool
-    ensures { λ r. ⌜ r ≡ selectsIn id (toldPrescribed prescribed) ⌝ }
-{
-    let Prescribed::Decided(decision) = prescribed else {
-        return false;
-    };
-    decision.is_executable() && decision.selected_model_id == id
-}
-
-// Whether the decision with a model in the record at an index selects an id.
-fn selects_at(
-    policy: PolicySnapshot,
-    bank: &[u8],
-    input: KernelInput,
-    index: usize,
-    model: KernelModel,
-    id: u32,
-) -> bool
-    ensures { λ r. ⌜ r ≡ selectsIn id (viewOf policy input (now (bank .entry)) index model) ⌝ }
-{
-    selects(decide_at(policy, bank, input, index, model), id)
-}
-
 // `with_model`: the bank with a model in the record at an index.
 pub fn with_model<'a>(bank: &'a [u8], index: usize, model: KernelModel) -> View<'a>
     ensures { λ r. ⌜ (r .bank ≡ bank .entry) × (r .index ≡ index) × (r .model ≡ model) ⌝ }
@@ -100,13 +76,6 @@ pub fn view_decide<'a>(view: View<'a>, policy: PolicySnapshot, input: KernelInpu
     decide_at(policy, view.bank, input, view.index, view.model)
 }
 
-// Whether a view selects an id; a refused one selects none.
-pub fn view_selects<'a>(view: View<'a>, policy: PolicySnapshot, input: KernelInput, id: u32) -> bool
-    ensures { λ r. ⌜ r ≡ selectsIn id (viewOf policy input (now (view .entry .bank)) (view .entry .index) (view .entry .model)) ⌝ }
-{
-    selects_at(policy, view.bank, input, view.index, view.model, id)
-}
-
 // The decision through a view, for callers that hold none. Refused: 1, 2.
 pub fn decided(
     policy: PolicySnapshot,
@@ -118,18 +87,4 @@ pub fn decided(
     ensures { λ r. ⌜ toldPrescribed r ≡ viewOf policy input (now (bank .entry)) index model ⌝ }
 {
     view_decide(with_model(bank, index, model), policy, input)
-}
-
-// Whether such a view selects an id; a refused one selects none.
-pub fn selected(
-    policy: PolicySnapshot,
-    bank: &[u8],
-    input: KernelInput,
-    index: usize,
-    model: KernelModel,
-    id: u32,
-) -> bool
-    ensures { λ r. ⌜ r ≡ selectsIn id (viewOf policy input (now (bank .entry)) index model) ⌝ }
-{
-    selects(decided(policy, bank, input, index, model), id)
 }

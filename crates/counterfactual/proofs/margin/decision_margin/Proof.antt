@@ -5,7 +5,7 @@ use Rattle.rules.specs.Margin.{decisionMarginOf}
 use Rattle.outset.proofs.Refusals.{bank-room, none-told}
 use Rattle.outset.proofs.Finding.{found-at, without, with-place}
 use Rattle.counterfactual.proofs.Listed.{boundary-passed, boundary-refused, stands-at, answer-made}
-use Rattle.counterfactual.proofs.Margins.{margin-rejected, margin-nowhere, margin-listed}
+use Rattle.counterfactual.proofs.Margins.{margin-rejected, margin-nowhere, margin-listed, chosen-free}
 use Rattle.counterfactual.proofs.margin.decision_margin.Statement.{statement}
 use Rattle.counterfactual.proofs.margin.decision_margin.Tie as tie
 
@@ -15,21 +15,21 @@ returns c =
     let o = c .before .before in
     c .refused .ensures ∙ sym (boundary-refused _ _ (o .outcome .given .1) (o .before .before .bank-outcome .ensures))
 
-decide-requires : tie.Need-decide-requires
-decide-requires c κs = bank-room _ (c .enum-told .given .1) (c .before .before .bank-outcome .ensures)
+opened-requires : tie.Need-opened-requires
+opened-requires c κs = bank-room _ (c .enum-told .given .1) (c .before .before .bank-outcome .ensures)
 
 returns-2 : tie.Need-returns-2
 unfolding decisionMarginOf
 returns-2 c =
     let j = c .before .before in
-    let o = j .before .before in
+    let o = j .before .before .before in
     c .refused2 .ensures
     ∙ sym (boundary-passed _ _ (o .enum-told .given .1) (o .before .before .bank-outcome .ensures)
-    ∙ margin-rejected _ _ _ (j .before .decide .ensures) (sym (j .is-rejected .ensures) ∙ c .before .if1 .taken))
+    ∙ margin-rejected _ _ _ (j .before .before .opened .ensures .decision) (sym (j .is-rejected .ensures) ∙ c .before .if1 .taken))
 
 first-listed-requires : tie.Need-first-listed-requires
 first-listed-requires c κs =
-    let o = c .before .before .before in
+    let o = c .before .before .before .before in
     bank-room _ (o .enum-told .given .1) (o .before .before .bank-outcome .ensures)
 
 returns-3 : tie.Need-returns-3
@@ -37,10 +37,10 @@ unfolding decisionMarginOf
 returns-3 c =
     let f = c .before .before in
     let j = f .before .before in
-    let o = j .before .before in
+    let o = j .before .before .before in
     c .refused3 .ensures
     ∙ sym (boundary-passed _ _ (o .enum-told .given .1) (o .before .before .bank-outcome .ensures)
-    ∙ margin-nowhere _ _ _ (j .before .decide .ensures)
+    ∙ margin-nowhere _ _ _ (j .before .before .opened .ensures .decision)
     (sym (j .is-rejected .ensures) ∙ f .before .if1 .left)
     (without (f .first-listed .result) _ (c .before .match2 .keys2) (f .first-listed .ensures)))
 
@@ -53,10 +53,12 @@ margin-levers-requires : tie.Need-margin-levers-requires
 margin-levers-requires c κs =
     let k = c .before .before in
     let f = k .before .before in
-    let o = f .before .before .before .before in
-    stands-at _ _ _ _ _ (c .asked-at .ensures)
+    let j = f .before .before in
+    let o = j .before .before .before in
+    stands-at _ _ _ _ _ (c .asked-at .ensures) (j .before .before .opened .ensures .top)
     (with-place (k .found .given .1) (f .first-listed .ensures))
     (none-told _ (o .enum-told .given .1) (o .before .before .bank-outcome .ensures))
+    (chosen-free _ _ _ (j .before .before .opened .ensures .decision) (sym (j .is-rejected .ensures) ∙ f .before .if1 .left))
 
 returns-4 : tie.Need-returns-4
 unfolding decisionMarginOf
@@ -65,10 +67,10 @@ returns-4 c =
     let k = a .before .before in
     let f = k .before .before in
     let j = f .before .before in
-    let o = j .before .before in
+    let o = j .before .before .before in
     answer-made _ _ _ refl (c .before .margin-levers .ensures) (c .answered .ensures)
     ∙ sym (boundary-passed _ _ (o .enum-told .given .1) (o .before .before .bank-outcome .ensures)
-    ∙ margin-listed _ _ _ (j .before .decide .ensures) _
+    ∙ margin-listed _ _ _ (j .before .before .opened .ensures .decision) _ _
     (sym (j .is-rejected .ensures) ∙ f .before .if1 .left)
     (a .asked-at .ensures)
     (with-place (k .found .given .1) (f .first-listed .ensures)))
@@ -82,7 +84,7 @@ decision-margin-spec =
     (λ c κs. search needs)
     returns
     (λ c. search needs)
-    decide-requires
+    opened-requires
     (λ c κs. search needs)
     (λ c κs. search needs)
     returns-2
@@ -90,7 +92,6 @@ decision-margin-spec =
     (λ c. search needs)
     (λ c κs. search needs)
     returns-3
-    (λ c. search needs)
     asked-at-requires
     margin-levers-requires
     (λ c κs. search needs)

@@ -9,6 +9,7 @@ use Rattle.rules.specs.Margin.{marginLevers}
 use Rattle.searches.specs.Lever.{widest}
 use Rattle.searches.specs.Asked.{questionOf}
 use Rattle.counterfactual.specs.Levers.{Room}
+use Rattle.searches.proofs.Passes.{searched-so, after-so}
 use Rattle.searches.proofs.Searches.{search-few, far-few}
 use Rattle.counterfactual.proofs.Notes.{note-passes, price-passes, four-noted}
 use Rattle.counterfactual.proofs.margin.margin_levers.Statement.{statement}
@@ -19,28 +20,24 @@ use Rattle.counterfactual.proofs.margin.margin_levers.Tie as tie
 lowest-true-requires : tie.Need-lowest-true-requires
 unfolding widest equal
 lowest-true-requires c κs =
-    let k = c .before in
-    let known = k .struct-known3 .given in
-    record { stands = k .before .before .before .before .before .pre; fits = omega arith }
+    let known = c .before .struct-known3 .given in
+    record { fits = omega arith; lowNarrow = omega arith; highNarrow = omega arith }
 
 highest-below-requires : tie.Need-highest-below-requires
 unfolding widest equal
 highest-below-requires c κs =
-    let k = c .before .before .before in
-    record { stands = k .before .before .before .before .before .pre; fits = omega arith }
+    let known = c .before .before .before .struct-known3 .given in
+    (omega arith, record { fits = omega arith; lowNarrow = omega arith; highNarrow = omega arith })
 
 highest-below-requires-2 : tie.Need-highest-below-requires-2
 unfolding widest equal
-highest-below-requires-2 c κs =
-    let k = c .before .before .before .before .before in
-    record { stands = k .before .before .before .before .before .pre; fits = omega arith }
+highest-below-requires-2 c κs = (omega arith, record { fits = omega arith; lowNarrow = omega arith; highNarrow = omega arith })
 
 lowest-above-requires : tie.Need-lowest-above-requires
 unfolding widest equal
 lowest-above-requires c κs =
-    let k = c .before .before .before .before .before .before .before in
-    let known = k .struct-known3 .given in
-    (omega arith, record { stands = k .before .before .before .before .before .pre; fits = omega arith })
+    let known = c .before .before .before .before .before .before .before .struct-known3 .given in
+    (omega arith, record { fits = omega arith; lowNarrow = omega arith; highNarrow = omega arith })
 
 -- ---- the passes are few
 
@@ -107,14 +104,15 @@ returns c =
     let l2 = n2 .before in
     let n1 = l2 .before in
     let l1 = n1 .before in
+    let s = l1 .before .before .before .before .before .before .before in
     four-noted _ _ _ _ (l1 .before .no-levers .ensures)
-    (l1 .lowest-true .ensures)
+    (searched-so _ _ (s .pre) Lowest 1 _ _ (l1 .lowest-true .ensures))
     (n1 .note .ensures)
-    (l2 .highest-below .ensures)
+    (after-so _ _ (s .pre) Highest 2 _ _ (l2 .highest-below .ensures))
     (n2 .note2 .ensures)
-    (l3 .highest-below2 .ensures)
+    (after-so _ _ (s .pre) Highest 3 _ _ (l3 .highest-below2 .ensures))
     (n3 .note-price .ensures)
-    (l4 .lowest-above .ensures)
+    (after-so _ _ (s .pre) Lowest 4 _ _ (l4 .lowest-above .ensures))
     (c .note3 .ensures)
 
 pub margin-levers-spec : {M : Type 1} → statement M

@@ -3,9 +3,9 @@ use borrow.Author.Needs.{needs}
 use mathlib.Core.Path.{sym, _∙_}
 use Rattle.rules.specs.Win.{whatWouldWinOf}
 use Rattle.outset.proofs.Refusals.{bank-room, none-told}
-use Rattle.outset.proofs.Finding.{found-at, without, with-place}
-use Rattle.counterfactual.proofs.Listed.{boundary-passed, boundary-refused, stands-at}
-use Rattle.counterfactual.proofs.Wins.{win-nowhere, win-listed}
+use Rattle.outset.proofs.Finding.{without, with-place}
+use Rattle.counterfactual.proofs.Listed.{boundary-passed, boundary-refused}
+use Rattle.counterfactual.proofs.Wins.{win-nowhere}
 use Rattle.counterfactual.proofs.win.what_would_win.Statement.{statement}
 use Rattle.counterfactual.proofs.win.what_would_win.Tie as tie
 
@@ -27,30 +27,18 @@ returns-2 c =
     ∙ sym (boundary-passed _ _ (o .enum-told .given .1) (o .before .before .bank-outcome .ensures)
     ∙ win-nowhere _ _ _ _ (without (f .first-listed .result) _ (c .before .match2 .keys2) (f .first-listed .ensures)))
 
-asked-at-requires : tie.Need-asked-at-requires
-asked-at-requires c κs =
-    let f = c .before .before .before in
-    found-at _ _ _ (with-place (c .before .found .given .1) (f .first-listed .ensures)) .1
-
 win-for-requires : tie.Need-win-for-requires
 win-for-requires c κs =
-    let k = c .before .before in
-    let f = k .before .before in
+    let f = c .before .before .before in
     let o = f .before in
-    stands-at _ _ _ _ _ (c .asked-at .ensures)
-    (with-place (k .found .given .1) (f .first-listed .ensures))
-    (none-told _ (o .enum-told .given .1) (o .before .before .bank-outcome .ensures))
+    (with-place (c .before .found .given .1) (f .first-listed .ensures), none-told _ (o .enum-told .given .1) (o .before .before .bank-outcome .ensures))
 
 returns-3 : tie.Need-returns-3
 unfolding whatWouldWinOf
 returns-3 c =
-    let a = c .before in
-    let k = a .before .before in
-    let f = k .before .before in
+    let f = c .before .before .before .before in
     let o = f .before in
-    c .win-for .ensures
-    ∙ sym (boundary-passed _ _ (o .enum-told .given .1) (o .before .before .bank-outcome .ensures)
-    ∙ win-listed _ _ _ _ _ (a .asked-at .ensures) (with-place (k .found .given .1) (f .first-listed .ensures)))
+    c .win-for .ensures ∙ sym (boundary-passed _ _ (o .enum-told .given .1) (o .before .before .bank-outcome .ensures))
 
 pub what-would-win-spec : {M : Type 1} → statement M
 what-would-win-spec =
@@ -65,7 +53,5 @@ what-would-win-spec =
     (λ c. search needs)
     (λ c κs. search needs)
     returns-2
-    (λ c. search needs)
-    asked-at-requires
     win-for-requires
     returns-3)

@@ -2,51 +2,69 @@
 use borrow.Author.Needs.{needs}
 use mathlib.Core.Path.{sym, ap, _∙_}
 use Rattle.rules.specs.Levers.{selects}
-use Rattle.searches.specs.Asked.{questionOf}
 use Rattle.rules.proofs.Faults.{few-records}
-use Rattle.counterfactual.proofs.Listed.{empty-room, answer-made}
-use Rattle.counterfactual.proofs.Wins.{win-stopped, win-selected, win-sought}
+use Rattle.outset.proofs.Finding.{found-at}
+use Rattle.others.proofs.Opening.{open-free}
+use Rattle.counterfactual.proofs.Listed.{stands-at, empty-room, answer-made}
+use Rattle.counterfactual.proofs.Wins.{win-stopped, win-selected, win-sought, win-listed, sought-at}
 use Rattle.counterfactual.proofs.win.win_for.Statement.{statement}
 use Rattle.counterfactual.proofs.win.win_for.Tie as tie
 
-decide-requires : tie.Need-decide-requires
-decide-requires c κs = few-records _ (c .before .before .before .pre .whole)
+opened-requires : tie.Need-opened-requires
+opened-requires c κs = few-records _ (c .before .pre .1)
 
 returns : tie.Need-returns
-unfolding questionOf
 returns c =
     let n = c .before in
     let s = n .before .before .before in
-    answer-made _ _ _ (s .before .decide .ensures) (n .no-levers .ensures ∙ empty-room) (c .answered .ensures)
-    ∙ sym (win-stopped _ _ (s .stopped-by .ensures) (n .before .enum-told .given .1))
+    let o = s .before .before in
+    answer-made _ _ _ (o .opened .ensures .decision) (n .no-levers .ensures ∙ empty-room) (c .answered .ensures)
+    ∙ sym (win-listed _ _ _ _ _ (o .before .before .pre .0) ∙ win-stopped _ _ (s .stopped-by .ensures) (n .before .enum-told .given .1))
 
 returns-2 : tie.Need-returns-2
-unfolding questionOf
 returns-2 c =
     let n = c .before in
     let w = n .before .before in
-    let o = w .before in
-    let s = o .before .before in
-    let d = s .before .decide .ensures in
+    let t = w .before in
+    let s = t .before .before in
+    let o = s .before .before in
+    let d = o .opened .ensures .decision in
     answer-made _ _ _ d (n .no-levers2 .ensures ∙ empty-room) (c .answered2 .ensures)
-    ∙ sym (win-selected _ _ (s .stopped-by .ensures) (o .enum-told2 .given .1) (ap (selects _) (sym d) ∙ sym (w .selected .ensures) ∙ n .before .if1 .taken))
+    ∙ sym (win-listed _ _ _ _ _ (o .before .before .pre .0)
+    ∙ win-selected _ _ (s .stopped-by .ensures) (t .enum-told2 .given .1) (ap (selects _) (sym d) ∙ sym (w .selected .ensures) ∙ n .before .if1 .taken))
+
+asked-at-requires : tie.Need-asked-at-requires
+asked-at-requires c κs =
+    let o = c .before .before .before .before .before .before in
+    found-at _ _ _ (o .before .before .pre .0) .1
+
+win-search-requires : tie.Need-win-search-requires
+win-search-requires c κs =
+    let w = c .before .before in
+    let t = w .before in
+    let s = t .before .before in
+    let o = s .before .before in
+    let h = o .before .before .pre in
+    stands-at _ _ _ _ _ (c .asked-at .ensures) (o .opened .ensures .top) (h .0) (h .1)
+    (open-free _ _ (s .stopped-by .ensures) (t .enum-told2 .given .1))
 
 returns-3 : tie.Need-returns-3
-unfolding questionOf
 returns-3 c =
-    let n = c .before in
-    let w = n .before .before in
-    let o = w .before in
-    let s = o .before .before in
-    let d = s .before .decide .ensures in
-    answer-made _ _ _ d (n .win-search .ensures) (c .answered3 .ensures)
-    ∙ sym (win-sought _ _ (s .stopped-by .ensures) (o .enum-told2 .given .1) (ap (selects _) (sym d) ∙ sym (w .selected .ensures) ∙ n .before .if1 .left))
+    let k = c .before .before in
+    let w = k .before .before in
+    let t = w .before in
+    let s = t .before .before in
+    let o = s .before .before in
+    let d = o .opened .ensures .decision in
+    answer-made _ _ _ d (sought-at _ _ _ _ _ _ (k .asked-at .ensures) (c .before .win-search .ensures)) (c .answered3 .ensures)
+    ∙ sym (win-listed _ _ _ _ _ (o .before .before .pre .0)
+    ∙ win-sought _ _ (s .stopped-by .ensures) (t .enum-told2 .given .1) (ap (selects _) (sym d) ∙ sym (w .selected .ensures) ∙ k .before .if1 .left))
 
 pub win-for-spec : {M : Type 1} → statement M
 win-for-spec =
     tie.close
     (tie.spec
-    decide-requires
+    opened-requires
     (λ c κs. search needs)
     (λ c. search needs)
     (λ c κs. search needs)
@@ -57,6 +75,7 @@ win-for-spec =
     (λ c κs. search needs)
     (λ c κs. search needs)
     returns-2
-    (λ c κs. search needs)
+    asked-at-requires
+    win-search-requires
     (λ c κs. search needs)
     returns-3)

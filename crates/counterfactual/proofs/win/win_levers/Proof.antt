@@ -9,6 +9,7 @@ use Rattle.rules.specs.Win.{winLevers}
 use Rattle.searches.specs.Lever.{widest}
 use Rattle.searches.specs.Asked.{questionOf}
 use Rattle.counterfactual.specs.Levers.{Room}
+use Rattle.searches.proofs.Passes.{searched-so}
 use Rattle.searches.proofs.Searches.{search-few}
 use Rattle.counterfactual.proofs.Notes.{note-passes, price-passes, four-noted}
 use Rattle.counterfactual.proofs.win.win_levers.Statement.{statement}
@@ -19,30 +20,24 @@ use Rattle.counterfactual.proofs.win.win_levers.Tie as tie
 lowest-true-requires : tie.Need-lowest-true-requires
 unfolding widest equal
 lowest-true-requires c κs =
-    let s = c .before .before .before .before .before .before in
-    record { stands = s .pre; fits = omega arith }
+    record { fits = omega arith; lowNarrow = omega arith; highNarrow = omega arith }
 
 highest-true-requires : tie.Need-highest-true-requires
 unfolding widest equal
 highest-true-requires c κs =
-    let k = c .before .before .before in
-    let s = k .before .before .before .before .before in
-    let known = k .struct-known3 .given in
-    record { stands = s .pre; fits = omega arith }
+    let known = c .before .before .before .struct-known3 .given in
+    record { fits = omega arith; lowNarrow = omega arith; highNarrow = omega arith }
 
 highest-true-requires-2 : tie.Need-highest-true-requires-2
 unfolding widest equal
 highest-true-requires-2 c κs =
-    let k = c .before .before .before .before .before in
-    let s = k .before .before .before .before .before in
-    record { stands = s .pre; fits = omega arith }
+    record { fits = omega arith; lowNarrow = omega arith; highNarrow = omega arith }
 
 lowest-true-requires-2 : tie.Need-lowest-true-requires-2
 unfolding widest equal
 lowest-true-requires-2 c κs =
-    let k = c .before .before .before .before .before .before .before in
-    let s = k .before .before .before .before .before in
-    record { stands = s .pre; fits = omega arith }
+    let known = c .before .before .before .before .before .before .before .struct-known3 .given in
+    record { fits = omega arith; lowNarrow = omega arith; highNarrow = omega arith }
 
 -- ---- the passes are few
 
@@ -112,14 +107,15 @@ returns c =
     let l2 = n2 .before in
     let n1 = l2 .before in
     let l1 = n1 .before in
+    let s = l1 .before .before .before .before .before .before .before in
     four-noted _ _ _ _ (l1 .before .no-levers .ensures)
-    (l1 .lowest-true .ensures)
+    (searched-so _ _ (s .pre) Lowest 1 _ _ (l1 .lowest-true .ensures))
     (n1 .note .ensures)
-    (l2 .highest-true .ensures)
+    (searched-so _ _ (s .pre) Highest 2 _ _ (l2 .highest-true .ensures))
     (n2 .note2 .ensures)
-    (l3 .highest-true2 .ensures)
+    (searched-so _ _ (s .pre) Highest 3 _ _ (l3 .highest-true2 .ensures))
     (n3 .note-price .ensures)
-    (l4 .lowest-true2 .ensures)
+    (searched-so _ _ (s .pre) Lowest 4 _ _ (l4 .lowest-true2 .ensures))
     (c .note3 .ensures)
 
 pub win-levers-spec : {M : Type 1} → statement M

@@ -5,6 +5,7 @@ use mathlib.Core.Path.{sym, ap, _∙_}
 use Rattle.rules.specs.Choice.{equal}
 use Rattle.searches.specs.Lever.{widest}
 use Rattle.searches.specs.Asked.{questionOf}
+use Rattle.searches.proofs.Passes.{wins-so}
 use Rattle.counterfactual.specs.Levers.{roomOf}
 use Rattle.counterfactual.proofs.Wins.{search-on, search-off, off-found, off-lost}
 use Rattle.counterfactual.proofs.win.win_search.Statement.{statement}
@@ -16,22 +17,24 @@ returns c = c .win-levers .ensures ∙ ap roomOf (sym (search-on _ (c .before .i
 
 wins-at-requires : tie.Need-wins-at-requires
 unfolding widest equal
-wins-at-requires c κs = record { stands = c .before .before .before .before .pre; fits = omega arith }
+wins-at-requires c κs = omega arith
 
 returns-2 : tie.Need-returns-2
 unfolding questionOf
 returns-2 c =
     let n = c .before .before in
     let w = n .before .before in
+    let e = wins-so _ _ (w .before .before .before .before .before .pre) 5 1 (w .wins-at .ensures) in
     off-found (n .no-levers .ensures) (c .before .plain .ensures) (c .push .ensures)
-    ∙ ap roomOf (sym (search-off _ _ (w .before .if1 .left) (sym (w .wins-at .ensures) ∙ n .before .if2 .taken)))
+    ∙ ap roomOf (sym (search-off _ _ (w .before .if1 .left) (sym e ∙ n .before .if2 .taken)))
 
 returns-3 : tie.Need-returns-3
 unfolding questionOf
 returns-3 c =
     let w = c .before .before in
+    let e = wins-so _ _ (w .before .before .before .before .before .pre) 5 1 (w .wins-at .ensures) in
     off-lost (c .no-levers2 .ensures)
-    ∙ ap roomOf (sym (search-off _ _ (w .before .if1 .left) (sym (w .wins-at .ensures) ∙ c .before .if2 .left)))
+    ∙ ap roomOf (sym (search-off _ _ (w .before .if1 .left) (sym e ∙ c .before .if2 .left)))
 
 pub win-search-spec : {M : Type 1} → statement M
 win-search-spec =

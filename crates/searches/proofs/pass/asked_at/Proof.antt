@@ -4,7 +4,7 @@ use Rattle.searches.proofs.pass.asked_at.Statement.{statement}
 use Rattle.searches.proofs.pass.asked_at.Tie as tie
 
 returns : tie.Need-returns
-returns c = rw (c .model-at .ensures)
+returns c = rw (c .others-best .ensures, c .before .model-at .ensures)
 
 pub asked-at-spec : {M : Type 1} → statement M
-asked-at-spec = tie.close (tie.spec (λ c κs. search needs) returns)
+asked-at-spec = tie.close (tie.spec (λ c κs. search needs) (λ c κs. search needs) returns)

@@ -1,14 +1,18 @@
 -- `searches::wins_at` meets its contract. Assumes nothing.
+use mathlib.Core.Path.{_∙_}
 use borrow.Author.Needs.{needs}
-use mathlib.Core.Path.{ap, _∙_}
-use Rattle.rules.specs.Levers.{selects, wins}
-use Rattle.searches.specs.Asked.{questionOf}
+use Rattle.searches.specs.Asked.{winsBy, winsIn}
 use Rattle.searches.proofs.pass.wins_at.Statement.{statement}
 use Rattle.searches.proofs.pass.wins_at.Tie as tie
 
 returns : tie.Need-returns
-unfolding wins questionOf
-returns c = c .selected .ensures ∙ ap (selects _) (c .before .decision-at .ensures)
+unfolding winsIn winsBy
+returns c =
+    let b = c .before in
+    let l = b .before in
+    c .has-id .ensures ∙ rw (b .best-with .ensures, l .lever-at .ensures, l .before .pricing-for .ensures .0)
 
 pub wins-at-spec : {M : Type 1} → statement M
-wins-at-spec = tie.close (tie.spec (λ c κs. search needs) (λ c κs. search needs) returns)
+wins-at-spec =
+    tie.close
+    (tie.spec (λ c κs. search needs) (λ c κs. search needs) (λ c κs. search needs) (λ c κs. search needs) returns)

@@ -1,0 +1,43 @@
+// The opening decision, and the best two that it was made from.
+ghost use Prim.Native.Nat.{_≤_};
+ghost use lib.ListN.{length};
+ghost use Rattle.rules.specs.Limits.{maxCatalogModels};
+ghost use Rattle.rules.specs.Records.{recordsIn, listedOf};
+ghost use Rattle.others.specs.Others.{Opens};
+use deciding::decide::decided;
+use deciding::decide::rejected;
+use deciding::stop::Stop;
+use deciding::stop::stopped_by;
+use ranking::state::Top;
+use ranking::state::start;
+use rules::KernelDecision;
+use rules::KernelInput;
+use rules::PolicySnapshot;
+use rules::limits::RECORD_BYTES;
+use scan::pricing_for;
+use scan::scan_on;
+
+pub struct Opening {
+    pub decision: KernelDecision,
+    pub top: Top,
+}
+
+// The decision over a bank of whole records, as `decide` makes it, with its best two. A stopped request has none.
+pub fn opened(policy: PolicySnapshot, bank: &[u8], input: KernelInput) -> Opening
+    requires { ⌜ recordsIn (length (now bank)) ≤ maxCatalogModels ⌝ }
+    ensures { λ r. ⌜ Opens policy input (listedOf (now (bank .entry))) r ⌝ }
+{
+    let stop = stopped_by(policy, input);
+    if let Stop::By(reason) = stop {
+        let decision = rejected(policy, input, reason, 0);
+        let nothing = start();
+        let top = nothing.top;
+        return Opening { decision, top };
+    }
+    let evaluated = (bank.len() / RECORD_BYTES) as u16;
+    let pricing = pricing_for(policy, input);
+    let state = scan_on(bank, 0, pricing, input, start());
+    let top = state.top;
+    let decision = decided(policy, input, state, evaluated);
+    Opening { decision, top }
+}

@@ -1,0 +1,44 @@
+-- `searches::searched` meets its contract, by the cases of the search. Assumes nothing.
+use native.Mathlib.Omega.{arith}
+use mathlib.Core.Path.{sym, _∙_}
+use borrow.Author.Needs.{needs}
+use Rattle.rules.proofs.Halvings.{search-empty}
+use Rattle.searches.specs.Search.{sideOf}
+use Rattle.searches.proofs.Halves.{first-fits, first-won, first-lost}
+use Rattle.searches.proofs.search.searched.Statement.{statement}
+use Rattle.searches.proofs.search.searched.Tie as tie
+
+returns : tie.Need-returns
+returns c = sym (search-empty _ _ _ _ (c .if1 .taken))
+
+wins-at-requires : tie.Need-wins-at-requires
+wins-at-requires c κs =
+    let i = c .before in
+    first-fits (sideOf (i .before .args .highest)) (i .if1 .left) (i .before .pre) (c .first-tried .ensures)
+
+returns-2 : tie.Need-returns-2
+returns-2 c =
+    let y = c .before in
+    let w = y .before in
+    let f = w .before in
+    let i = f .before in
+    first-won (sideOf (i .before .args .highest)) _ (i .if1 .left) (i .before .pre .highNarrow) (c .halved .ensures)
+    (f .first-tried .ensures) (sym (w .wins-at .ensures) ∙ y .if2 .taken)
+
+returns-3 : tie.Need-returns-3
+returns-3 c =
+    let w = c .before in
+    let f = w .before in
+    first-lost (sideOf (f .before .before .args .highest)) _ _ _ (f .first-tried .ensures) (f .before .if1 .left) (sym (w .wins-at .ensures) ∙ c .if2 .left)
+
+pub searched-spec : {M : Type 1} → statement M
+searched-spec =
+    tie.close
+    (tie.spec
+    returns
+    (λ c κs. search needs)
+    wins-at-requires
+    (λ c κs. search needs)
+    (λ c. search needs)
+    returns-2
+    returns-3)
