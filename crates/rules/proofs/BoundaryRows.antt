@@ -10,7 +10,7 @@ use lib.ListN.{replicate}
 use Rattle.rules.specs.Records.{modelOf, inputOf, policyOf}
 use Rattle.rules.specs.Refused.{fault, Answer, refused, answered}
 use Rattle.rules.specs.Numbers.{Decision, Boundary}
-use Rattle.rules.specs.View.{viewOf, selectsIn}
+use Rattle.rules.specs.View.{viewOf}
 use Rattle.rules.proofs.Opened.{rules}
 use Rattle.rules.proofs.Rows.{row, Named, Row, says, wouldWin, margin}
 use Rattle.rules.proofs.Example.{bank, modelOne, modelTwo, policy, request, with, named, uneven}
@@ -168,7 +168,4 @@ viewRows =
     ∷ says "a view of the second record" (twinAt 1 bank) (answered (decision 42 2 2 9 1 300 (pos 6200) 1 (pos 5200) 2 2 7 3)) refl
     ∷ says "a view beyond the bank is the bank" (twinAt 2 bank) (answered choice) refl
     ∷ says "a view of an uneven bank: 1" (twinAt 0 uneven) (refused (fault 1)) refl
-    ∷ says "a view selects what it chose, and refused nothing" (selectsIn 9 (twinAt 1 bank) ∷ selectsIn 1 (twinAt 1 bank) ∷ selectsIn 0 (twinAt 0 uneven) ∷ [])
-    (true ∷ false ∷ false ∷ [])
-    refl
     ∷ []

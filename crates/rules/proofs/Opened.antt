@@ -7,7 +7,7 @@ use Rattle.rules.specs.Stored.{requestForm}
 use Rattle.rules.specs.Stored.{writeFaults, writeStoredOf, writeStoredBuffer, readFaults, readStoredOf}
 use Rattle.rules.specs.Stored.{readStoredBuffer, writeRequestOf, writeRequestBuffer, readRequestOf}
 use Rattle.rules.specs.Refused.{lengthFaults, roomFaults}
-use Rattle.rules.specs.Listing.{readingFaults, readingOf, recordOf, firstListed, findOf}
+use Rattle.rules.specs.Listing.{readingFaults, readingOf, recordOf, recordStart, firstListed, findOf}
 use Rattle.rules.specs.Decide.{requestFaults, requestCheck}
 use Rattle.rules.specs.Validate.{policyFaults, emptyFaults, repeatFaults, providerFaults, modelFaults, recordFaults}
 use Rattle.rules.specs.Validate.{recordsFaults, offFaults, catalogFaults, validateOf}
@@ -51,7 +51,7 @@ writing = tt
 -- ---- numbers handed back: of a bank, a request, a catalogue
 
 refusing : Unit {0}
-unfolding lengthFaults roomFaults readingFaults readingOf recordOf firstListed findOf requestFaults requestCheck
+unfolding lengthFaults roomFaults readingFaults readingOf recordOf recordStart firstListed findOf requestFaults requestCheck
 refusing = tt
 
 validating : Unit {0}

@@ -14,7 +14,7 @@ use Rattle.rules.specs.Utility.{held}
 use Rattle.rules.specs.Verdict.{verdictOf}
 use Rattle.rules.specs.Rank.{Candidate, sorted}
 use Rattle.rules.specs.Count.{dominantOf}
-use Rattle.rules.specs.Listing.{findOf, readingOf, recordOf}
+use Rattle.rules.specs.Listing.{findOf, readingOf, recordOf, recordStart}
 use Rattle.rules.specs.Decide.{requestCheck, prescribeOf, prescribeCheckedOf, prescribeTracedCheckedOf, utilityForModelOf}
 use Rattle.rules.proofs.Opened.{rules}
 use Rattle.rules.proofs.Rows.{row, Named, Row, says, decided, explained}
@@ -253,4 +253,6 @@ refusalRows =
     ∷ says "beyond the bank no bytes" (recordOf bank 2) [] refl
     ∷ says "1 before 8" (readingOf uneven 2) (fault 1) refl
     ∷ says "of an uneven bank no bytes" (recordOf uneven 0) [] refl
+    ∷ says "a record begins at its own place, though one before it is equal" (recordStart (modelOne ++ modelOne) 1) 47 refl
+    ∷ says "no bytes begin where the bank does" (recordStart bank 2 ∷ recordStart uneven 1 ∷ []) (0 ∷ 0 ∷ []) refl
     ∷ []

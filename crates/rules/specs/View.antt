@@ -1,13 +1,11 @@
 -- Document 01, "What must change shape": the decision over a bank in which one model stands in for a record.
 use Prim.Native.Nat.{ℕ}
-use mathlib.Core.Bool.{Bool, false}
 use mathlib.Core.List.{List}
 use lib.ListN.{set}
 use Rattle.rules.specs.Records.{Listed, listed, listedOf}
-use Rattle.rules.specs.Refused.{bankFaults, Answer, refused, answered, unless}
+use Rattle.rules.specs.Refused.{bankFaults, Answer, answered, unless}
 use Rattle.rules.specs.Numbers.{Decision}
 use Rattle.rules.specs.Decide.{decisionOf}
-use Rattle.rules.specs.Levers.{selects}
 use Rattle.rules.specs.declared.records.KernelModel.{KernelModel}
 use Rattle.rules.specs.declared.records.KernelInput.{KernelInput}
 use Rattle.rules.specs.declared.records.PolicySnapshot.{PolicySnapshot}
@@ -16,10 +14,6 @@ use Rattle.rules.specs.declared.records.PolicySnapshot.{PolicySnapshot}
 unfoldable pub withModel : List Listed → ℕ → KernelModel → List Listed
 withModel ls index m = set ls index (listed index m)
 
--- X7. The decision through a view, and whether it selects an id; a refused one selects none
+-- X7. The decision through a view
 unfoldable pub viewOf : PolicySnapshot → KernelInput → List ℕ → ℕ → KernelModel → Answer Decision
 viewOf p q bank index m = unless (bankFaults bank) (answered (decisionOf p q (withModel (listedOf bank) index m)))
-
-abbrev pub selectsIn : ℕ → Answer Decision → Bool
-selectsIn id (refused f) = false
-selectsIn id (answered d) = selects id d
