@@ -1,27 +1,28 @@
 -- What noting a lever adds to a room, and four levers noted one after the other. Assumes nothing.
 use Prim.Native.Nat.{ℕ, _+_, _≤_}
 use native.Mathlib.Omega.{arith}
-use mathlib.Core.Path.{_≡_, ap, ap₂, _∙_}
+use mathlib.Core.Path.{_≡_, refl, ap, _∙_}
 use lib.ListN.{length}
-use Rattle.rules.specs.Levers.{Question, Sought, plain, priced, andThen}
+use Rattle.rules.specs.Levers.{Question, plain, priced}
+use Rattle.rules.specs.declared.records.KernelModel.{KernelModel}
 use Rattle.rules.specs.declared.boundary.Bound.{Bound}
 use Rattle.rules.specs.declared.boundary.Bound.the-variants.{At, Nothing}
 use Rattle.rules.specs.Halving.{passesOf}
 use Rattle.rules.proofs.Halvings.{plain-passes}
-use Rattle.counterfactual.specs.Levers.{Room, emptyRoom, joined, roomOf}
+use Rattle.counterfactual.specs.Levers.{Room, emptyRoom, joined, roomOf, costAt, pricedBy, fourSought}
 use Rattle.counterfactual.proofs.Rooms.{joined-passes, four-joined}
 
 -- ---- its passes
 
-priced-passes : (a : Question) (r : Bound) → priced a r .passes ≤ passesOf r + 1
-priced-passes a (At b n) = omega arith
-priced-passes a (Nothing n) = omega arith
+priced-passes : (cost : ℕ) (r : Bound) → pricedBy cost r .passes ≤ passesOf r + 1
+priced-passes cost (At b n) = omega arith
+priced-passes cost (Nothing n) = omega arith
 
 pub note-passes : {u : Room} (t : Room) (lever current : ℕ) (r : Bound) → u ≡ joined t (plain lever current r) → u .passes ≡ t .passes + passesOf r
 note-passes t lever current r e = omega (arith, joined-passes t (plain lever current r) e, plain-passes lever current r)
 
-pub price-passes : {u : Room} (t : Room) (a : Question) (r : Bound) → u ≡ joined t (priced a r) → u .passes ≤ t .passes + passesOf r + 1
-price-passes t a r e = omega (arith, joined-passes t (priced a r) e, priced-passes a r)
+pub price-passes : {u : Room} (t : Room) (cost : ℕ) (r : Bound) → u ≡ joined t (pricedBy cost r) → u .passes ≤ t .passes + passesOf r + 1
+price-passes t cost r e = omega (arith, joined-passes t (pricedBy cost r) e, priced-passes cost r)
 
 -- ---- its entry, if any
 
@@ -29,28 +30,39 @@ plain-few : (lever current : ℕ) (r : Bound) → length (plain lever current r 
 plain-few lever current (At b n) = omega arith
 plain-few lever current (Nothing n) = omega arith
 
-priced-few : (a : Question) (r : Bound) → length (priced a r .entries) ≤ 1
-priced-few a (At b n) = omega arith
-priced-few a (Nothing n) = omega arith
+priced-few : (cost : ℕ) (r : Bound) → length (pricedBy cost r .entries) ≤ 1
+priced-few cost (At b n) = omega arith
+priced-few cost (Nothing n) = omega arith
 
-then : {u t v : Room} {s w : Sought} → u ≡ joined t s → t ≡ v → s ≡ w → u ≡ joined v w
-then e p q = e ∙ ap₂ joined p q
-
--- FOUR LEVERS, EACH FROM WHAT ITS SEARCH AND ITS NOTE ENSURE
-pub four-noted : (a : Question) (quality latency ceiling : ℕ) {t u₁ u₂ u₃ u₄ : Room} {r₁ r₂ r₃ r₄ s₁ s₂ s₃ s₄ : Bound}
+-- FOUR LEVERS, EACH FROM WHAT ITS NOTE ENSURES
+pub four-noted : (m : KernelModel) (cost : ℕ) {t u₁ u₂ u₃ u₄ : Room} (r₁ r₂ r₃ r₄ : Bound)
     → t ≡ emptyRoom 1
-    → r₁ ≡ s₁ → u₁ ≡ joined t (plain 1 quality r₁)
-    → r₂ ≡ s₂ → u₂ ≡ joined u₁ (plain 2 latency r₂)
-    → r₃ ≡ s₃ → u₃ ≡ joined u₂ (priced a r₃)
-    → r₄ ≡ s₄ → u₄ ≡ joined u₃ (plain 4 ceiling r₄)
-    → u₄ ≡ roomOf (andThen (plain 1 quality s₁) (andThen (plain 2 latency s₂) (andThen (priced a s₃) (plain 4 ceiling s₄))))
+    → u₁ ≡ joined t (plain 1 (m .«quality_bps») r₁)
+    → u₂ ≡ joined u₁ (plain 2 (m .«p95_latency_ms») r₂)
+    → u₃ ≡ joined u₂ (pricedBy cost r₃)
+    → u₄ ≡ joined u₃ (plain 4 (m .«risk_ceiling_bps») r₄)
+    → u₄ ≡ roomOf (fourSought m r₁ r₂ (pricedBy cost r₃) r₄)
 unfolding roomOf
-four-noted a quality latency ceiling {s₁ = s₁} {s₂ = s₂} {s₃ = s₃} {s₄ = s₄} e p₁ e₁ p₂ e₂ p₃ e₃ p₄ e₄ =
-    then e₄
-    (then e₃ (then e₂ (then e₁ e (ap (plain 1 quality) p₁)) (ap (plain 2 latency) p₂)) (ap (priced a) p₃))
-    (ap (plain 4 ceiling) p₄)
-    ∙ four-joined (plain 1 quality s₁) (plain 2 latency s₂) (priced a s₃) (plain 4 ceiling s₄)
-    (plain-few 1 quality s₁)
-    (plain-few 2 latency s₂)
-    (priced-few a s₃)
-    (plain-few 4 ceiling s₄)
+four-noted m cost r₁ r₂ r₃ r₄ e e₁ e₂ e₃ e₄ =
+    let quality = plain 1 (m .«quality_bps») r₁ in
+    let latency = plain 2 (m .«p95_latency_ms») r₂ in
+    let ceiling = plain 4 (m .«risk_ceiling_bps») r₄ in
+    e₄
+    ∙ ap (λ t. joined t ceiling) (e₃ ∙ ap (λ t. joined t (pricedBy cost r₃)) (e₂ ∙ ap (λ t. joined t latency) (e₁ ∙ ap (λ t. joined t quality) e)))
+    ∙ four-joined quality latency (pricedBy cost r₃) ceiling
+    (plain-few 1 (m .«quality_bps») r₁)
+    (plain-few 2 (m .«p95_latency_ms») r₂)
+    (priced-few cost r₃)
+    (plain-few 4 (m .«risk_ceiling_bps») r₄)
+
+-- ---- the price with its cost
+
+priced-at : (a : Question) (r : Bound) → pricedBy (costAt a r) r ≡ priced a r
+priced-at a (At b n) = refl
+priced-at a (Nothing n) = refl
+
+-- WHAT FOUR SEARCHES FOUND, WITH THE COST AT THE PRICE'S BOUNDARY
+pub four-sought : (a : Question) {cost : ℕ} {t : Room} {r₁ r₂ r₃ r₄ s₁ s₂ s₃ s₄ : Bound} → t ≡ roomOf (fourSought (a .model) r₁ r₂ (pricedBy cost r₃) r₄) → cost ≡ costAt a r₃
+    → r₁ ≡ s₁ → r₂ ≡ s₂ → r₃ ≡ s₃ → r₄ ≡ s₄ → t ≡ roomOf (fourSought (a .model) s₁ s₂ (priced a s₃) s₄)
+four-sought a {r₃ = r₃} e c e₁ e₂ e₃ e₄ =
+    e ∙ (λ i. roomOf (fourSought (a .model) (e₁ i) (e₂ i) ((ap (λ n. pricedBy n r₃) c ∙ priced-at a r₃ ∙ ap (priced a) e₃) i) (e₄ i)))

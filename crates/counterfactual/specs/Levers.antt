@@ -1,12 +1,18 @@
 -- Room for four levers in document 01's numbers, and what goes into it.
-use Prim.Native.Nat.{ℕ, _+_, _-_}
+use Prim.Native.Nat.{ℕ, _+_, _-_, _≤_}
 use mathlib.Core.Bool.{Bool}
 use mathlib.Core.List.{List, [], _∷_, _++_, map}
+use mathlib.Core.Option.{some}
 use lib.ListN.{length, set, replicate}
+use Rattle.rules.specs.Limits.{ppm}
 use Rattle.rules.specs.Choice.{below}
 use Rattle.rules.specs.Refused.{Fault}
 use Rattle.rules.specs.Numbers.{Decision, Entry, toldEntry, Boundary}
-use Rattle.rules.specs.Levers.{Sought, noEntry}
+use Rattle.rules.specs.Halving.{passesOf}
+use Rattle.rules.specs.Levers.{Question, decisionAt, Sought, entry, plain, andThen, noEntry}
+use Rattle.rules.specs.declared.records.KernelModel.{KernelModel}
+use Rattle.rules.specs.declared.boundary.Bound.{Bound}
+use Rattle.rules.specs.declared.boundary.Bound.the-variants.{At, Nothing}
 use Rattle.rules.specs.declared.boundary.Levers.{Levers}
 
 -- The levers' part of an answer
@@ -58,3 +64,25 @@ boundaryWith f id d blocked t =
       count = t .count;
       passes = t .passes;
     }
+
+-- W9. The cost at the price's boundary, 0 where there is none; and the price lever with a cost
+abbrev pub costAt : Question → Bound → ℕ
+costAt a (At b n) = decisionAt a 3 b .cost
+costAt a (Nothing n) = 0
+
+abbrev pub pricedBy : ℕ → Bound → Sought
+pricedBy cost (At b n) = record { entries = entry 3 ppm b (some cost) ∷ []; passes = n + 1 }
+pricedBy cost (Nothing n) = record { entries = []; passes = n }
+
+-- W10. Four levers of a model, by what their searches found
+abbrev pub fourSought : KernelModel → Bound → Bound → Sought → Bound → Sought
+fourSought m quality latency price ceiling =
+    andThen (plain 1 (m .«quality_bps») quality)
+    (andThen (plain 2 (m .«p95_latency_ms») latency) (andThen price (plain 4 (m .«risk_ceiling_bps») ceiling)))
+
+-- No search over 64 bits takes more passes
+pub record FewPasses (quality latency price ceiling : Bound) : Type 0 where
+  pub byQuality : passesOf quality ≤ 66
+  pub byLatency : passesOf latency ≤ 66
+  pub byPrice : passesOf price ≤ 66
+  pub byCeiling : passesOf ceiling ≤ 66

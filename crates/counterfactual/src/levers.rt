@@ -5,17 +5,21 @@ ghost use mathlib.Core.Option.{none, some};
 ghost use Prim.Native.Nat.{_+_, _<_, _^_};
 ghost use Rattle.rules.specs.Limits.{ppm};
 ghost use Rattle.rules.specs.Numbers.{toldEntry};
-ghost use Rattle.rules.specs.Levers.{decisionAt, entry};
+ghost use Rattle.rules.specs.Levers.{entry};
 ghost use Rattle.rules.specs.Levers as rule;
 ghost use Rattle.searches.specs.Asked.{questionOf, Stands};
 ghost use Rattle.rules.specs.Halving.{passesOf};
-ghost use Rattle.counterfactual.specs.Levers.{toldLevers, emptyRoom, pushed, passed, joined};
+ghost use Rattle.counterfactual.specs.Levers.{toldLevers, emptyRoom, pushed, passed, joined, roomOf, costAt, pricedBy, fourSought, FewPasses};
 use rules::Bound;
 use rules::BoundaryCost;
+use rules::KernelModel;
 use rules::Levers;
 use rules::Requirement;
 use rules::limits::PPM;
+use searches::lever::P95_LATENCY_MS;
 use searches::lever::PRICE_SCALE_PPM;
+use searches::lever::QUALITY_BPS;
+use searches::lever::RISK_CEILING_BPS;
 use searches::pass::Asked;
 use searches::pass::decision_at;
 
@@ -31,18 +35,29 @@ pub fn plain(lever: u8, current: u64, boundary: u64) -> Requirement
     }
 }
 
-// `priced`: the price lever at a scale, with what the decision costs there. That takes a pass of its own.
-fn priced(asked: Asked, bank: &[u8], scale: u64) -> Requirement
-    requires { ⌜ Stands asked (now bank) ⌝ }
-    ensures { λ r. ⌜ toldEntry r ≡ entry 3 ppm scale (some (decisionAt (questionOf asked (now (bank .entry))) 3 scale .cost)) ⌝ }
+// `priced`: the price lever at a scale, with what the decision costs there.
+fn priced(scale: u64, cost: u64) -> Requirement
+    ensures { λ r. ⌜ toldEntry r ≡ entry 3 ppm scale (some cost) ⌝ }
 {
-    let decision = decision_at(asked, bank, PRICE_SCALE_PPM, scale);
-    let cost = BoundaryCost::Microunits(decision.estimated_cost_microunits);
     Requirement {
         lever: PRICE_SCALE_PPM,
         current: PPM,
         boundary: scale,
-        cost_at_boundary_microunits: cost,
+        cost_at_boundary_microunits: BoundaryCost::Microunits(cost),
+    }
+}
+
+// What the decision at the price's boundary costs: a pass of its own, over the bank. 0 where there is no boundary.
+pub fn price_cost(asked: Asked, bank: &[u8], found: Bound) -> u64
+    requires { ⌜ Stands asked (now bank) ⌝ }
+    ensures { λ r. ⌜ r ≡ costAt (questionOf asked (now (bank .entry))) found ⌝ }
+{
+    match found {
+        Bound::At(scale, _) => {
+            let decision = decision_at(asked, bank, PRICE_SCALE_PPM, scale);
+            decision.estimated_cost_microunits
+        }
+        Bound::Nothing(_) => 0,
     }
 }
 
@@ -84,7 +99,7 @@ fn pass(levers: Levers, n: u64) -> Levers
 }
 
 // With what the search of a lever found.
-pub fn note(levers: Levers, lever: u8, current: u64, found: Bound) -> Levers
+fn note(levers: Levers, lever: u8, current: u64, found: Bound) -> Levers
     requires { ⌜ levers .passes + passesOf found < 2 ^ 64 ⌝ }
     ensures { λ r. ⌜ toldLevers r ≡ joined (toldLevers levers) (rule.plain lever current found) ⌝ }
 {
@@ -94,13 +109,36 @@ pub fn note(levers: Levers, lever: u8, current: u64, found: Bound) -> Levers
     }
 }
 
-// With what the search of the price found.
-pub fn note_price(levers: Levers, asked: Asked, bank: &[u8], found: Bound) -> Levers
-    requires { ⌜ (Stands asked (now bank)) × (levers .passes + passesOf found + 1 < 2 ^ 64) ⌝ }
-    ensures { λ r. ⌜ toldLevers r ≡ joined (toldLevers levers) (rule.priced (questionOf asked (now (bank .entry))) found) ⌝ }
+// With what the search of the price found, and the cost there.
+fn note_price(levers: Levers, found: Bound, cost: u64) -> Levers
+    requires { ⌜ levers .passes + passesOf found + 1 < 2 ^ 64 ⌝ }
+    ensures { λ r. ⌜ toldLevers r ≡ joined (toldLevers levers) (pricedBy cost found) ⌝ }
 {
     match found {
-        Bound::At(scale, n) => pass(push(levers, priced(asked, bank, scale)), n + 1),
+        Bound::At(scale, n) => pass(push(levers, priced(scale, cost)), n + 1),
         Bound::Nothing(n) => pass(levers, n),
     }
+}
+
+// What the searches of a model's four levers found, in their order; the opening decision is one pass.
+pub fn four_levers(
+    model: KernelModel,
+    quality: Bound,
+    latency: Bound,
+    price: Bound,
+    cost: u64,
+    ceiling: Bound,
+) -> Levers
+    requires { ⌜ FewPasses quality latency price ceiling ⌝ }
+    ensures { λ r. ⌜ toldLevers r ≡ roomOf (fourSought model quality latency (pricedBy cost price) ceiling) ⌝ }
+{
+    let one = note(no_levers(1), QUALITY_BPS, model.quality_bps as u64, quality);
+    let two = note(one, P95_LATENCY_MS, model.p95_latency_ms as u64, latency);
+    let three = note_price(two, price, cost);
+    note(
+        three,
+        RISK_CEILING_BPS,
+        model.risk_ceiling_bps as u64,
+        ceiling,
+    )
 }

@@ -6,9 +6,8 @@ ghost use Rattle.searches.specs.Asked.{questionOf, Stands};
 ghost use Rattle.counterfactual.specs.Levers.{toldLevers, roomOf};
 use crate::answer::answered;
 use crate::answer::refused;
-use crate::levers::no_levers;
-use crate::levers::note;
-use crate::levers::note_price;
+use crate::levers::four_levers;
+use crate::levers::price_cost;
 use others::open::opened;
 use outset::listing::first_listed;
 use outset::refuse::bank_outcome;
@@ -23,6 +22,9 @@ use rules::limits::MAX_PRICE_SCALE_PPM;
 use rules::limits::PPM;
 use searches::far::highest_below;
 use searches::far::lowest_above;
+use searches::held::held_of;
+use searches::held::model_held;
+use searches::held::request_held;
 use searches::lever::P95_LATENCY_MS;
 use searches::lever::PRICE_SCALE_PPM;
 use searches::lever::QUALITY_BPS;
@@ -34,8 +36,8 @@ use searches::search::lowest_true;
 // The highest latency that a model can have.
 const MAX_LATENCY_MS: u64 = 0xffff_ffff;
 
-// Four levers, each searched from today's value to its far end, in their order; the opening decision is one pass. Quality is searched at
-// once: at 0 a model is never eligible, so that with unique ids its far end can't win.
+// Four levers, each searched from today's value to its far end. Quality is searched at once: at 0 a model is never eligible, so that with
+// unique ids its far end can't win.
 fn margin_levers(asked: Asked, bank: &[u8]) -> Levers
     requires { ⌜ Stands asked (now bank) ⌝ }
     ensures { λ r. ⌜ toldLevers r ≡ roomOf (marginLevers (questionOf asked (now (bank .entry)))) ⌝ }
@@ -44,15 +46,29 @@ fn margin_levers(asked: Asked, bank: &[u8]) -> Levers
     let quality = model.quality_bps as u64;
     let latency = model.p95_latency_ms as u64;
     let ceiling = model.risk_ceiling_bps as u64;
-    let empty = no_levers(1);
-    let by_quality = lowest_true(asked, QUALITY_BPS, 0, quality);
-    let one = note(empty, QUALITY_BPS, quality, by_quality);
-    let by_latency = highest_below(asked, P95_LATENCY_MS, latency, MAX_LATENCY_MS);
-    let two = note(one, P95_LATENCY_MS, latency, by_latency);
-    let by_price = highest_below(asked, PRICE_SCALE_PPM, PPM, MAX_PRICE_SCALE_PPM);
-    let three = note_price(two, asked, bank, by_price);
-    let by_ceiling = lowest_above(asked, RISK_CEILING_BPS, 0, ceiling);
-    note(three, RISK_CEILING_BPS, ceiling, by_ceiling)
+    let request = request_held(asked.input);
+    let varied = model_held(model);
+    let held = held_of(asked);
+    let by_quality = lowest_true(&request, &varied, &held, QUALITY_BPS, 0, quality);
+    let by_latency = highest_below(
+        &request,
+        &varied,
+        &held,
+        P95_LATENCY_MS,
+        latency,
+        MAX_LATENCY_MS,
+    );
+    let by_price = highest_below(
+        &request,
+        &varied,
+        &held,
+        PRICE_SCALE_PPM,
+        PPM,
+        MAX_PRICE_SCALE_PPM,
+    );
+    let by_ceiling = lowest_above(&request, &varied, &held, RISK_CEILING_BPS, 0, ceiling);
+    let cost = price_cost(asked, bank, by_price);
+    four_levers(model, by_quality, by_latency, by_price, cost, by_ceiling)
 }
 
 // `decision_margin`: how far the levers of the selected model can move. With a repeated id its first listed record is varied. Refused: 1, 2,

@@ -11,10 +11,10 @@ ghost use Rattle.searches.specs.Asked.{questionOf, Stands};
 ghost use Rattle.counterfactual.specs.Levers.{toldLevers, roomOf};
 use crate::answer::answered;
 use crate::answer::refused;
+use crate::levers::four_levers;
 use crate::levers::no_levers;
-use crate::levers::note;
-use crate::levers::note_price;
 use crate::levers::plain;
+use crate::levers::price_cost;
 use crate::levers::push;
 use deciding::stop::Stop;
 use deciding::stop::stopped_by;
@@ -30,6 +30,9 @@ use rules::PolicySnapshot;
 use rules::Refusal;
 use rules::limits::MAX_BPS;
 use rules::limits::PPM;
+use searches::held::held_of;
+use searches::held::model_held;
+use searches::held::request_held;
 use searches::lever::ENABLED;
 use searches::lever::P95_LATENCY_MS;
 use searches::lever::PRICE_SCALE_PPM;
@@ -42,7 +45,7 @@ use searches::pass::wins_at;
 use searches::search::highest_true;
 use searches::search::lowest_true;
 
-// Four levers, each searched from today's value to its favourable end, in their order; the opening decision is one pass.
+// Four levers, each searched from today's value to its favourable end.
 fn win_levers(asked: Asked, bank: &[u8]) -> Levers
     requires { ⌜ Stands asked (now bank) ⌝ }
     ensures { λ r. ⌜ toldLevers r ≡ roomOf (winLevers (questionOf asked (now (bank .entry)))) ⌝ }
@@ -52,15 +55,15 @@ fn win_levers(asked: Asked, bank: &[u8]) -> Levers
     let quality = model.quality_bps as u64;
     let latency = model.p95_latency_ms as u64;
     let ceiling = model.risk_ceiling_bps as u64;
-    let empty = no_levers(1);
-    let by_quality = lowest_true(asked, QUALITY_BPS, quality, most);
-    let one = note(empty, QUALITY_BPS, quality, by_quality);
-    let by_latency = highest_true(asked, P95_LATENCY_MS, 0, latency);
-    let two = note(one, P95_LATENCY_MS, latency, by_latency);
-    let by_price = highest_true(asked, PRICE_SCALE_PPM, 0, PPM);
-    let three = note_price(two, asked, bank, by_price);
-    let by_ceiling = lowest_true(asked, RISK_CEILING_BPS, ceiling, most);
-    note(three, RISK_CEILING_BPS, ceiling, by_ceiling)
+    let request = request_held(asked.input);
+    let varied = model_held(model);
+    let held = held_of(asked);
+    let by_quality = lowest_true(&request, &varied, &held, QUALITY_BPS, quality, most);
+    let by_latency = highest_true(&request, &varied, &held, P95_LATENCY_MS, 0, latency);
+    let by_price = highest_true(&request, &varied, &held, PRICE_SCALE_PPM, 0, PPM);
+    let by_ceiling = lowest_true(&request, &varied, &held, RISK_CEILING_BPS, ceiling, most);
+    let cost = price_cost(asked, bank, by_price);
+    four_levers(model, by_quality, by_latency, by_price, cost, by_ceiling)
 }
 
 // A model that is off is only switched on, at the second pass: no other lever makes it win.

@@ -21,8 +21,9 @@ pub fn others_best(top: Top, place: u16) -> Candidate
     ensures { λ r. ⌜ r ≡ othersOf top place ⌝ }
 {
     let best = top.best;
+    let second = top.second;
     if best.model_index == place {
-        return top.second;
+        return second;
     }
     best
 }

@@ -15,22 +15,12 @@ use Rattle.rules.specs.Levers.{leverAt, selects, decisionAt, wins}
 use Rattle.rules.specs.View.{withModel, viewOf}
 use Rattle.rules.specs.declared.records.KernelModel.{KernelModel}
 use Rattle.rules.specs.declared.boundary.Bound.{Bound}
-use Rattle.pricing.specs.Pricing.{pricingOf}
-use Rattle.pricing.specs.declared.Pricing.{Pricing}
 use Rattle.outset.proofs.Finding.{found-at}
 use Rattle.others.proofs.Offers.{selects-by-others}
 use Rattle.searches.specs.Asked.{winsBy, winsIn, questionOf, Stands}
-use Rattle.searches.specs.Held.{placeIn, idIn, rivalIn, pricingIn, winsOn}
+use Rattle.searches.specs.Held.{Says, winsOn}
 use Rattle.searches.specs.declared.pass.Asked.{Asked}
 use Rattle.searches.proofs.Varied.{varied-at}
-
--- WHAT A HALVING MAKES OF ITS ARRAYS IS WHAT IS ASKED, at every value, where they say it
-pub held-test : (k : Asked) (lever : ℕ) (request varied ns : List ℕ) {pr : Pricing} → inputOf request ≡ k .input → modelOf varied ≡ k .model
-    → (placeIn ns ≡ k .place) × (idIn ns ≡ k .id) × (rivalIn ns ≡ k .rival) × (pricingIn ns ≡ pr) → pr ≡ pricingOf (k .policy) (k .input)
-    → winsOn request varied ns lever ≡ winsIn k lever
-unfolding winsOn winsIn
-held-test k lever request varied ns eq em e settled =
-    λ i v. winsBy ((e .3 ∙ settled) i) (eq i) (em i) (e .0 i) (e .1 i) (e .2 i) lever v
 
 module _ (k : Asked) (bank : List ℕ) (stands : Stands k bank) where
   inside : k .place < recordsIn (length bank)
@@ -49,20 +39,26 @@ module _ (k : Asked) (bank : List ℕ) (stands : Stands k bank) where
       (sym (ap (selects (k .id)) (decision-is lever v)
       ∙ selects-by-others bank (k .place) inside (k .policy) (k .input) (stands .free) (leverAt lever v (k .model)) (k .id)))
 
-  -- at every value, so that a search over the one is a search over the other
-  same-test : (lever : ℕ) → winsIn k lever ≡ wins (questionOf k bank) lever
-  same-test lever = λ i v. wins-at-value lever v i
-
   pub wins-so : (lever v : ℕ) {b : Bool} → b ≡ winsIn k lever v → b ≡ wins (questionOf k bank) lever v
   wins-so lever v e = e ∙ wins-at-value lever v
 
-  pub searched-so : (s : Side) (lever low high : ℕ) {r : Bound} → r ≡ searchOf s (winsIn k lever) low high
-      → r ≡ searchOf s (wins (questionOf k bank) lever) low high
-  searched-so s lever low high e = e ∙ ap (λ t. searchOf s t low high) (same-test lever)
+  -- WHAT A SEARCH MAKES OF ITS ARRAYS, where they say what is asked, is what the rules say of the bank, at every value
+  module _ (request varied : List ℕ) {ns : List ℕ} (eq : inputOf request ≡ k .input) (em : modelOf varied ≡ k .model) (says : Says k ns) where
+    held-at : (lever v : ℕ) → winsOn request varied ns lever v ≡ winsIn k lever v
+    unfolding winsOn winsIn
+    held-at lever v = λ i. winsBy (says .pricing i) (eq i) (em i) (says .place i) (says .id i) (says .rival i) lever v
 
-  pub after-so : (s : Side) (lever low high : ℕ) {r : Bound} → r ≡ searchAfterFarEnd s (winsIn k lever) low high
-      → r ≡ searchAfterFarEnd s (wins (questionOf k bank) lever) low high
-  after-so s lever low high e = e ∙ ap (λ t. searchAfterFarEnd s t low high) (same-test lever)
+    -- so that a search over the one is a search over the other
+    same-test : (lever : ℕ) → winsOn request varied ns lever ≡ wins (questionOf k bank) lever
+    same-test lever = λ i v. (held-at lever v ∙ wins-at-value lever v) i
+
+    pub searched-so : (s : Side) (lever low high : ℕ) {r : Bound} → r ≡ searchOf s (winsOn request varied ns lever) low high
+        → r ≡ searchOf s (wins (questionOf k bank) lever) low high
+    searched-so s lever low high e = e ∙ ap (λ t. searchOf s t low high) (same-test lever)
+
+    pub after-so : (s : Side) (lever low high : ℕ) {r : Bound} → r ≡ searchAfterFarEnd s (winsOn request varied ns lever) low high
+        → r ≡ searchAfterFarEnd s (wins (questionOf k bank) lever) low high
+    after-so s lever low high e = e ∙ ap (λ t. searchAfterFarEnd s t low high) (same-test lever)
 
   -- ---- the decision over the bank
 

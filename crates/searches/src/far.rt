@@ -2,14 +2,16 @@
 ghost use mathlib.Core.Path.{_≡_};
 ghost use Prim.Native.Nat.{_+_, _<_, _≤_, _^_};
 ghost use Rattle.rules.specs.Halving.{Lowest, Highest, farEnd, passesOf, laterBy, searchAfterFarEnd};
-ghost use Rattle.searches.specs.Asked.{winsIn};
-ghost use Rattle.searches.specs.Search.{sideOf, Within};
-use crate::pass::Asked;
-use crate::pass::wins_at;
+ghost use Rattle.searches.specs.Held.{winsOn};
+ghost use Rattle.searches.specs.Search.{sideOf, Over};
+use crate::held::Held;
+use crate::held::wins_on;
 use crate::search::HIGHEST;
 use crate::search::LOWEST;
 use crate::search::searched;
 use rules::Bound;
+use rules::limits::ModelBytes;
+use rules::limits::RequestBytes;
 
 // The least favourable end.
 fn far_end(highest: bool, low: u64, high: u64) -> u64
@@ -33,29 +35,51 @@ fn one_later(found: Bound) -> Bound
 }
 
 // The search after the far end.
-fn searched_after(asked: Asked, lever: u8, highest: bool, low: u64, high: u64) -> Bound
-    requires { ⌜ (low ≤ high) × Within lever low high ⌝ }
-    ensures { λ r. ⌜ r ≡ searchAfterFarEnd (sideOf highest) (winsIn asked lever) low high ⌝ }
+fn searched_after(
+    request: &RequestBytes,
+    varied: &ModelBytes,
+    held: &Held,
+    lever: u8,
+    highest: bool,
+    low: u64,
+    high: u64,
+) -> Bound
+    requires { ⌜ (low ≤ high) × Over (now held) lever low high ⌝ }
+    ensures { λ r. ⌜ r ≡ searchAfterFarEnd (sideOf highest) (winsOn (now (request .entry)) (now (varied .entry)) (now (held .entry)) lever) low high ⌝ }
 {
     let far = far_end(highest, low, high);
-    if wins_at(asked, lever, far) {
+    if wins_on(request, varied, held, lever, far) {
         return Bound::Nothing(1);
     }
-    one_later(searched(asked, lever, highest, low, high))
+    one_later(searched(request, varied, held, lever, highest, low, high))
 }
 
 // The lowest value from low to high that wins, where the low end doesn't.
-pub fn lowest_above(asked: Asked, lever: u8, low: u64, high: u64) -> Bound
-    requires { ⌜ (low ≤ high) × Within lever low high ⌝ }
-    ensures { λ r. ⌜ r ≡ searchAfterFarEnd Lowest (winsIn asked lever) low high ⌝ }
+pub fn lowest_above(
+    request: &RequestBytes,
+    varied: &ModelBytes,
+    held: &Held,
+    lever: u8,
+    low: u64,
+    high: u64,
+) -> Bound
+    requires { ⌜ (low ≤ high) × Over (now held) lever low high ⌝ }
+    ensures { λ r. ⌜ r ≡ searchAfterFarEnd Lowest (winsOn (now (request .entry)) (now (varied .entry)) (now (held .entry)) lever) low high ⌝ }
 {
-    searched_after(asked, lever, LOWEST, low, high)
+    searched_after(request, varied, held, lever, LOWEST, low, high)
 }
 
 // The highest value from low to high that wins, where the high end doesn't.
-pub fn highest_below(asked: Asked, lever: u8, low: u64, high: u64) -> Bound
-    requires { ⌜ (low ≤ high) × Within lever low high ⌝ }
-    ensures { λ r. ⌜ r ≡ searchAfterFarEnd Highest (winsIn asked lever) low high ⌝ }
+pub fn highest_below(
+    request: &RequestBytes,
+    varied: &ModelBytes,
+    held: &Held,
+    lever: u8,
+    low: u64,
+    high: u64,
+) -> Bound
+    requires { ⌜ (low ≤ high) × Over (now held) lever low high ⌝ }
+    ensures { λ r. ⌜ r ≡ searchAfterFarEnd Highest (winsOn (now (request .entry)) (now (varied .entry)) (now (held .entry)) lever) low high ⌝ }
 {
-    searched_after(asked, lever, HIGHEST, low, high)
+    searched_after(request, varied, held, lever, HIGHEST, low, high)
 }

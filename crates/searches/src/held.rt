@@ -1,12 +1,13 @@
-// What a halving holds, by reference: three arrays, since a reference to an array is one pointer, which a step hands on as it is. The request
-// and the model stand there as their bytes, all else as numbers; policy and request are settled once.
+// What a search holds, by reference: three arrays, since a reference to an array is one pointer, which a step hands on as it is. The request
+// and the model stand there as their bytes, all else as numbers; policy and request are settled once for all levers.
 ghost use mathlib.Core.Path.{_≡_};
 ghost use Prim.Native.Nat.{_≤_};
 ghost use Rattle.rules.specs.Records.{modelOf, inputOf};
 ghost use Rattle.pricing.specs.Pricing.{Settled};
 ghost use Rattle.searches.specs.Lever.{widest};
-ghost use Rattle.searches.specs.Held.{placeIn, idIn, rivalIn, pricingIn, winsOn};
+ghost use Rattle.searches.specs.Held.{placeIn, idIn, rivalIn, pricingIn, Says, winsOn};
 use crate::lever::lever_at;
+use crate::pass::Asked;
 use bank::input_from;
 use bank::model_from;
 use others::rival::best_with;
@@ -20,13 +21,14 @@ use rules::KernelModel;
 use rules::Wide;
 use rules::limits::ModelBytes;
 use rules::limits::RequestBytes;
+use scan::pricing_for;
 
 // The place and the id of the model that is varied; the best of the others: id, place, quality, cost, score; what is settled: value,
 // confidence, quality prefix, the risk term's limbs, the latency penalty.
 pub type Held = [u64; 13];
 
 // The numbers that say them.
-pub fn held_of(place: u16, id: u32, rival: Candidate, pricing: Pricing) -> Held
+fn numbers_of(place: u16, id: u32, rival: Candidate, pricing: Pricing) -> Held
     ensures { λ r. ⌜ (placeIn r ≡ place) × (idIn r ≡ id) × (rivalIn r ≡ rival) × (pricingIn r ≡ pricing) ⌝ }
 {
     let risk = pricing.risk_penalty;
@@ -45,6 +47,14 @@ pub fn held_of(place: u16, id: u32, rival: Candidate, pricing: Pricing) -> Held
         risk.lo,
         pricing.latency_pen_per_ms,
     ]
+}
+
+// What is asked, in numbers.
+pub fn held_of(asked: Asked) -> Held
+    ensures { λ r. ⌜ Says asked r ⌝ }
+{
+    let pricing = pricing_for(asked.policy, asked.input);
+    numbers_of(asked.place, asked.id, asked.rival, pricing)
 }
 
 // The place, and the id.

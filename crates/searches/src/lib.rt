@@ -2,7 +2,7 @@
 // A search knows no bank: of the other records it has the best. All of it is for the crate `counterfactual`, but for `pass::selected`, which
 // asks nothing; a lever's values must fit its field.
 pub mod far;
-mod held;
+pub mod held;
 pub mod lever;
 pub mod pass;
 pub mod search;

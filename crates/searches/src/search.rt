@@ -3,20 +3,13 @@
 ghost use mathlib.Core.Path.{_≡_};
 ghost use Prim.Native.Nat.{_+_, _<_, _≤_, _^_};
 ghost use Rattle.rules.specs.Halving.{Lowest, Highest, firstTried, middle, keptLow, keptHigh, halve, searchOf};
-ghost use Rattle.searches.specs.Asked.{winsIn};
 ghost use Rattle.searches.specs.Held.{winsOn};
-ghost use Rattle.searches.specs.Search.{sideOf, inOne, Within, Over};
+ghost use Rattle.searches.specs.Search.{sideOf, inOne, Over};
 use crate::held::Held;
-use crate::held::held_of;
-use crate::held::model_held;
-use crate::held::request_held;
 use crate::held::wins_on;
-use crate::pass::Asked;
-use crate::pass::wins_at;
 use rules::Bound;
 use rules::limits::ModelBytes;
 use rules::limits::RequestBytes;
-use scan::pricing_for;
 
 // Which value is looked for.
 pub const LOWEST: bool = false;
@@ -97,18 +90,6 @@ fn halved_from(
     found + ONE_PASS
 }
 
-// The same for what is asked.
-fn halved(asked: Asked, lever: u8, highest: bool, low: u64, high: u64) -> u64
-    requires { ⌜ Within lever low high ⌝ }
-    ensures { λ r. ⌜ r ≡ inOne (halve (sideOf highest) (winsIn asked lever) low high) ⌝ }
-{
-    let pricing = pricing_for(asked.policy, asked.input);
-    let request = request_held(asked.input);
-    let varied = model_held(asked.model);
-    let held = held_of(asked.place, asked.id, asked.rival, pricing);
-    halved_from(&request, &varied, &held, lever, highest, low, high)
-}
-
 // The end that is tried first: the favourable one.
 fn first_tried(highest: bool, low: u64, high: u64) -> u64
     ensures { λ r. ⌜ r ≡ firstTried (sideOf highest) low high ⌝ }
@@ -120,33 +101,55 @@ fn first_tried(highest: bool, low: u64, high: u64) -> u64
 }
 
 // The lowest or the highest value from low to high that wins, with its passes. An empty range takes none.
-pub(crate) fn searched(asked: Asked, lever: u8, highest: bool, low: u64, high: u64) -> Bound
-    requires { ⌜ Within lever low high ⌝ }
-    ensures { λ r. ⌜ r ≡ searchOf (sideOf highest) (winsIn asked lever) low high ⌝ }
+pub(crate) fn searched(
+    request: &RequestBytes,
+    varied: &ModelBytes,
+    held: &Held,
+    lever: u8,
+    highest: bool,
+    low: u64,
+    high: u64,
+) -> Bound
+    requires { ⌜ Over (now held) lever low high ⌝ }
+    ensures { λ r. ⌜ r ≡ searchOf (sideOf highest) (winsOn (now (request .entry)) (now (varied .entry)) (now (held .entry)) lever) low high ⌝ }
 {
     if high < low {
         return Bound::Nothing(0);
     }
     let first = first_tried(highest, low, high);
-    if wins_at(asked, lever, first) {
-        let found = halved(asked, lever, highest, low, high);
+    if wins_on(request, varied, held, lever, first) {
+        let found = halved_from(request, varied, held, lever, highest, low, high);
         return Bound::At(found % ONE_PASS, found / ONE_PASS + 1);
     }
     Bound::Nothing(1)
 }
 
 // `lowest_true`: the lowest value from low to high that wins, with its passes. The high end is tried first.
-pub fn lowest_true(asked: Asked, lever: u8, low: u64, high: u64) -> Bound
-    requires { ⌜ Within lever low high ⌝ }
-    ensures { λ r. ⌜ r ≡ searchOf Lowest (winsIn asked lever) low high ⌝ }
+pub fn lowest_true(
+    request: &RequestBytes,
+    varied: &ModelBytes,
+    held: &Held,
+    lever: u8,
+    low: u64,
+    high: u64,
+) -> Bound
+    requires { ⌜ Over (now held) lever low high ⌝ }
+    ensures { λ r. ⌜ r ≡ searchOf Lowest (winsOn (now (request .entry)) (now (varied .entry)) (now (held .entry)) lever) low high ⌝ }
 {
-    searched(asked, lever, LOWEST, low, high)
+    searched(request, varied, held, lever, LOWEST, low, high)
 }
 
 // `highest_true`: the highest value from low to high that wins. The low end is tried first.
-pub fn highest_true(asked: Asked, lever: u8, low: u64, high: u64) -> Bound
-    requires { ⌜ Within lever low high ⌝ }
-    ensures { λ r. ⌜ r ≡ searchOf Highest (winsIn asked lever) low high ⌝ }
+pub fn highest_true(
+    request: &RequestBytes,
+    varied: &ModelBytes,
+    held: &Held,
+    lever: u8,
+    low: u64,
+    high: u64,
+) -> Bound
+    requires { ⌜ Over (now held) lever low high ⌝ }
+    ensures { λ r. ⌜ r ≡ searchOf Highest (winsOn (now (request .entry)) (now (varied .entry)) (now (held .entry)) lever) low high ⌝ }
 {
-    searched(asked, lever, HIGHEST, low, high)
+    searched(request, varied, held, lever, HIGHEST, low, high)
 }

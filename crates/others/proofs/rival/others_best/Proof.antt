@@ -8,7 +8,7 @@ use Rattle.others.proofs.rival.others_best.Tie as tie
 
 returns : tie.Need-returns
 unfolding othersOf
-returns c = sym (equal-yes _ _ _ _ (c .before .if1 .taken))
+returns c = sym (equal-yes _ _ _ _ (c .if1 .taken))
 
 returns-2 : tie.Need-returns-2
 unfolding othersOf

@@ -8,16 +8,16 @@ use Rattle.searches.proofs.Halves.{far-fits, far-won, far-late}
 use Rattle.searches.proofs.far.searched_after.Statement.{statement}
 use Rattle.searches.proofs.far.searched_after.Tie as tie
 
-wins-at-requires : tie.Need-wins-at-requires
-wins-at-requires c κs =
+wins-on-requires : tie.Need-wins-on-requires
+wins-on-requires c κs =
     let s = c .before in
-    far-fits (sideOf (s .args .highest)) (s .pre .0) (s .pre .1) (c .far-end .ensures)
+    (s .pre .1 .settled, far-fits (sideOf (s .args .highest)) (s .pre .0) (s .pre .1 .within) (c .far-end .ensures))
 
 returns : tie.Need-returns
 returns c =
     let w = c .before in
     let f = w .before in
-    far-won (sideOf (f .before .args .highest)) _ _ _ (f .far-end .ensures) (sym (w .wins-at .ensures) ∙ c .if1 .taken)
+    far-won (sideOf (f .before .args .highest)) _ _ _ (f .far-end .ensures) (sym (w .wins-on .ensures) ∙ c .if1 .taken)
 
 one-later-requires : tie.Need-one-later-requires
 one-later-requires c κs =
@@ -30,7 +30,7 @@ returns-2 c =
     let i = t .before in
     let w = i .before in
     let f = w .before in
-    far-late (sideOf (f .before .args .highest)) _ _ _ (f .far-end .ensures) (sym (w .wins-at .ensures) ∙ i .if1 .left)
+    far-late (sideOf (f .before .args .highest)) _ _ _ (f .far-end .ensures) (sym (w .wins-on .ensures) ∙ i .if1 .left)
     (c .one-later .ensures) (t .searched .ensures)
 
 pub searched-after-spec : {M : Type 1} → statement M
@@ -38,7 +38,7 @@ searched-after-spec =
     tie.close
     (tie.spec
     (λ c κs. search needs)
-    wins-at-requires
+    wins-on-requires
     returns
     (λ c κs. search needs)
     one-later-requires

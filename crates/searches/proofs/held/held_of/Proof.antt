@@ -1,32 +1,14 @@
--- `searches::held_of` meets its contract: a candidate's numbers fit their fields. Assumes nothing.
-use Prim.Native.Nat.{ℕ, _%_, _^_}
-use mathlib.Core.Path.{_≡_, refl}
-use native.Mathlib.Omega.{arith}
+-- `searches::held_of` meets its contract. Assumes nothing.
+use mathlib.Core.Path.{_∙_}
 use borrow.Author.Needs.{needs}
 use Rattle.searches.proofs.held.held_of.Statement.{statement}
 use Rattle.searches.proofs.held.held_of.Tie as tie
 
 returns : tie.Need-returns
 returns c =
-    let s = c .before .before .before .before .before in
-    let g = s .good in
-    let b = s .args .rival in
-    let pr = s .args .pricing in
-    let x : b .«model_id» % 2 ^ 32 ≡ b .«model_id» = omega (arith, g) in
-    let y : b .«model_index» % 2 ^ 16 ≡ b .«model_index» = omega (arith, g) in
-    let z : b .«quality_bps» % 2 ^ 16 ≡ b .«quality_bps» = omega (arith, g) in
-    let w : pr .«confidence_bps» % 2 ^ 16 ≡ pr .«confidence_bps» = omega (arith, g) in (
-      omega (arith, g),
-      omega (arith, g),
-      λ i. record { «model_id» = x i; «model_index» = y i; «quality_bps» = z i; cost = b .cost; score = b .score },
-      λ i. record {
-        value = pr .value;
-        «confidence_bps» = w i;
-        «quality_prefix» = pr .«quality_prefix»;
-        «risk_penalty» = pr .«risk_penalty»;
-        «latency_pen_per_ms» = pr .«latency_pen_per_ms»;
-      },
-    )
+    let n = c .numbers-of .ensures in
+    let p = c .before .pricing-for .ensures in
+    record { place = n .0; id = n .1; rival = n .2; pricing = n .3 ∙ p .0; settled = rw (n .3) (p .1) }
 
 pub held-of-spec : {M : Type 1} → statement M
-held-of-spec = tie.close (tie.spec (λ c. search needs) (λ c. search needs) (λ c. search needs) (λ c. search needs) returns)
+held-of-spec = tie.close (tie.spec (λ c κs. search needs) (λ c κs. search needs) returns)

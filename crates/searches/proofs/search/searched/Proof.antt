@@ -11,10 +11,10 @@ use Rattle.searches.proofs.search.searched.Tie as tie
 returns : tie.Need-returns
 returns c = sym (search-empty _ _ _ _ (c .if1 .taken))
 
-wins-at-requires : tie.Need-wins-at-requires
-wins-at-requires c κs =
+wins-on-requires : tie.Need-wins-on-requires
+wins-on-requires c κs =
     let i = c .before in
-    first-fits (sideOf (i .before .args .highest)) (i .if1 .left) (i .before .pre) (c .first-tried .ensures)
+    (i .before .pre .settled, first-fits (sideOf (i .before .args .highest)) (i .if1 .left) (i .before .pre .within) (c .first-tried .ensures))
 
 returns-2 : tie.Need-returns-2
 returns-2 c =
@@ -22,14 +22,14 @@ returns-2 c =
     let w = y .before in
     let f = w .before in
     let i = f .before in
-    first-won (sideOf (i .before .args .highest)) _ (i .if1 .left) (i .before .pre .highNarrow) (c .halved .ensures)
-    (f .first-tried .ensures) (sym (w .wins-at .ensures) ∙ y .if2 .taken)
+    first-won (sideOf (i .before .args .highest)) _ (i .if1 .left) (i .before .pre .within .highNarrow) (c .halved-from .ensures)
+    (f .first-tried .ensures) (sym (w .wins-on .ensures) ∙ y .if2 .taken)
 
 returns-3 : tie.Need-returns-3
 returns-3 c =
     let w = c .before in
     let f = w .before in
-    first-lost (sideOf (f .before .before .args .highest)) _ _ _ (f .first-tried .ensures) (f .before .if1 .left) (sym (w .wins-at .ensures) ∙ c .if2 .left)
+    first-lost (sideOf (f .before .before .args .highest)) _ _ _ (f .first-tried .ensures) (f .before .if1 .left) (sym (w .wins-on .ensures) ∙ c .if2 .left)
 
 pub searched-spec : {M : Type 1} → statement M
 searched-spec =
@@ -37,7 +37,7 @@ searched-spec =
     (tie.spec
     returns
     (λ c κs. search needs)
-    wins-at-requires
+    wins-on-requires
     (λ c κs. search needs)
     (λ c. search needs)
     returns-2
