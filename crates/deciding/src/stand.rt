@@ -1,4 +1,4 @@
-// The decision over a bank that has another record at a place, which a search asks for at each setting.
+// The decision over a bank that has another record at a place, which a boundary's price asks for.
 ghost use mathlib.Core.Path.{_≡_};
 ghost use lib.ListN.{length, set};
 ghost use Rattle.rules.specs.Records.{listed, listedOf, modelOf};

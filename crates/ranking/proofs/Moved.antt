@@ -85,7 +85,8 @@ module _ (js : List Judged) (j : Judged) (ks : List Judged) (h : Each (λ k. j .
 
 module _ (p : PolicySnapshot) (q : KernelInput) where
   -- A RECORD APART FROM THE OTHERS: what all come to is what the others come to, and one step
-  pub state-apart : (ls : List Listed) (l : Listed) (ks : List Listed) → Each (Elsewhere (l .place)) ks → stateOf (judged p q (ls ++ l ∷ ks)) ≡ stepOf (stateOf (judged p q (ls ++ ks))) (judge p q l)
+  pub state-apart : (ls : List Listed) (l : Listed) (ks : List Listed) → Each (Elsewhere (l .place)) ks
+      → stateOf (judged p q (ls ++ l ∷ ks)) ≡ stepOf (stateOf (judged p q (ls ++ ks))) (judge p q l)
   state-apart ls l ks h =
       ap stateOf (judged-append p q ls (l ∷ ks))
       ∙ held-moved (judged p q ls) (judge p q l) (judged p q ks) (judged-each p q (λ n. l .place ≡ n → ⊥) ks h)

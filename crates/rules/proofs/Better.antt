@@ -5,9 +5,15 @@ use mathlib.Core.Bool.{Bool, true, false, cond, not, false≢true}
 use mathlib.Core.List.{List, [], _∷_, _++_, foldl}
 use Rattle.rules.specs.Choice.{lower, higher}
 use Rattle.rules.specs.Rank.{Candidate, better, insert, sorted}
-use Rattle.rules.proofs.Strict.{Strict, one-way, none-before, numbers, integers, turned, first, level-all, Each, insertBy, Apart, sorted-each, sorted-moved}
+use Rattle.rules.proofs.Strict.{Strict, one-way, none-before, numbers, integers, turned, first, level-all}
+use Rattle.rules.proofs.Strict.{Each, insertBy, Apart, sorted-each, sorted-moved}
 
-five : Strict better (λ a b. (a .utility ≡ b .utility) × ((a .cost ≡ b .cost) × ((a .quality ≡ b .quality) × ((a .id ≡ b .id) × ((a .place ≡ b .place) × Unit {0})))))
+-- Two that are level by each key
+abbrev Level : Candidate → Candidate → Type 0
+Level a b =
+    (a .utility ≡ b .utility) × ((a .cost ≡ b .cost) × ((a .quality ≡ b .quality) × ((a .id ≡ b .id) × ((a .place ≡ b .place) × Unit {0}))))
+
+five : Strict better Level
 unfolding better lower higher
 five =
     first (λ (c : Candidate). c .utility) (turned integers)
@@ -69,7 +75,8 @@ pub candidates-each : (P : Candidate → Type 0) (cs : List Candidate) → Each 
 candidates-each P cs h = rw (sorted-by [] cs) (sorted-each better P cs h)
 
 -- THE ORDER OF CANDIDATES, wherever one of another place than those after it stands
-pub candidate-moved : (xs : List Candidate) (c : Candidate) (ys : List Candidate) → Each (λ b. c .place ≡ b .place → ⊥) ys → sorted (xs ++ c ∷ ys) ≡ insert (sorted (xs ++ ys)) c
+pub candidate-moved : (xs : List Candidate) (c : Candidate) (ys : List Candidate) → Each (λ b. c .place ≡ b .place → ⊥) ys
+    → sorted (xs ++ c ∷ ys) ≡ insert (sorted (xs ++ ys)) c
 candidate-moved xs c ys h =
     sorted-by [] (xs ++ c ∷ ys) ∙ sorted-moved better better-goes-on xs c ys (apart ys h)
     ∙ sym (insert-by (sorted (xs ++ ys)) c ∙ ap (λ l. insertBy better l c) (sorted-by [] (xs ++ ys)))

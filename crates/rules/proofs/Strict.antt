@@ -85,7 +85,8 @@ turned s =
 abbrev pub keyed : {A K : Type 0} → (K → K → Bool) → (A → K) → (A → A → Bool) → A → A → Bool
 keyed before key rest a b = firstly (before (key a) (key b)) (before (key b) (key a)) (rest a b)
 
-module _ {A K : Type 0} {before : K → K → Bool} {rest : A → A → Bool} {Same : A → A → Type 0} (key : A → K) (s : Strict before (λ a b. a ≡ b)) (r : Strict rest Same) where
+module _ {A K : Type 0} {before : K → K → Bool} {rest : A → A → Bool} {Same : A → A → Type 0} (key : A → K)
+    (s : Strict before (λ a b. a ≡ b)) (r : Strict rest Same) where
   abbrev Ahead : A → A → Type 0
   Ahead a b = (before (key a) (key b) ≡ true) ⊎ ((key a ≡ key b) × (rest a b ≡ true))
 
@@ -106,7 +107,8 @@ module _ {A K : Type 0} {before : K → K → Bool} {rest : A → A → Bool} {S
   ties : (a b : A) → keyed before key rest a b ≡ false → keyed before key rest b a ≡ false → (key a ≡ key b) × Same a b
   ties a b e f = go (before (key a) (key b)) (before (key b) (key a)) refl refl e f
     where
-      go : (t u : Bool) → before (key a) (key b) ≡ t → before (key b) (key a) ≡ u → firstly t u (rest a b) ≡ false → firstly u t (rest b a) ≡ false → (key a ≡ key b) × Same a b
+      go : (t u : Bool) → before (key a) (key b) ≡ t → before (key b) (key a) ≡ u → firstly t u (rest a b) ≡ false → firstly u t (rest b a) ≡ false
+          → (key a ≡ key b) × Same a b
       go true u p q e f = absurd (false≢true (sym e))
       go false true p q e f = absurd (false≢true (sym f))
       go false false p q e f = (s .neither (key a) (key b) p q, r .neither a b e f)
@@ -219,7 +221,8 @@ module _ {A : Type 0} (before : A → A → Bool) where
 
   module _ (goesOn : (a b c : A) → before a b ≡ true → before b c ≡ true → before a c ≡ true) where
     -- two in either order, the first before the second
-    in-turn : (a b : A) → before a b ≡ true → before b a ≡ false → (xs : List A) → insertBy before (insertBy before xs a) b ≡ insertBy before (insertBy before xs b) a
+    in-turn : (a b : A) → before a b ≡ true → before b a ≡ false → (xs : List A)
+        → insertBy before (insertBy before xs a) b ≡ insertBy before (insertBy before xs b) a
     in-turn a b p n [] = rw (n, p)
     in-turn a b p n (x ∷ xs) = go (before a x) (before b x) refl refl (in-turn a b p n xs)
       where
@@ -238,21 +241,25 @@ module _ {A : Type 0} (before : A → A → Bool) where
         go true p n = in-turn a b p n xs
         go false n p = sym (in-turn b a p n xs)
 
-    later : (x : A) (acc ks : List A) → Each (Apart before x) ks → foldl (insertBy before) (insertBy before acc x) ks ≡ insertBy before (foldl (insertBy before) acc ks) x
+    later : (x : A) (acc ks : List A) → Each (Apart before x) ks
+        → foldl (insertBy before) (insertBy before acc x) ks ≡ insertBy before (foldl (insertBy before) acc ks) x
     later x acc [] h = refl
     later x acc (k ∷ ks) h =
         ap (λ a. foldl (insertBy before) a ks) (either-order x k (h .0) acc) ∙ later x (insertBy before acc k) ks (h .1)
 
     -- WHERE AN ELEMENT STANDS MAKES NO DIFFERENCE: it may as well come last
-    pub sorted-moved : (ls : List A) (x : A) (ks : List A) → Each (Apart before x) ks → sortedBy before (ls ++ x ∷ ks) ≡ insertBy before (sortedBy before (ls ++ ks)) x
+    pub sorted-moved : (ls : List A) (x : A) (ks : List A) → Each (Apart before x) ks
+        → sortedBy before (ls ++ x ∷ ks) ≡ insertBy before (sortedBy before (ls ++ ks)) x
     sorted-moved ls x ks h =
         foldl-append (insertBy before) [] ls (x ∷ ks) ∙ later x (sortedBy before ls) ks h
         ∙ ap (λ l. insertBy before l x) (sym (foldl-append (insertBy before) [] ls ks))
 
     -- THE BEST OF ALL IS THE BETTER OF THE ELEMENT AND THE BEST OF THE OTHERS
-    pub best-moved : (ls : List A) (x : A) (ks : List A) → Each (Apart before x) ks → firstOf (sortedBy before (ls ++ x ∷ ks)) ≡ some (betterBy before x (firstOf (sortedBy before (ls ++ ks))))
+    pub best-moved : (ls : List A) (x : A) (ks : List A) → Each (Apart before x) ks
+        → firstOf (sortedBy before (ls ++ x ∷ ks)) ≡ some (betterBy before x (firstOf (sortedBy before (ls ++ ks))))
     best-moved ls x ks h = ap firstOf (sorted-moved ls x ks h) ∙ first-insert (sortedBy before (ls ++ ks)) x
 
     -- AND SO FOR THE BEST TWO
-    pub two-moved : (ls : List A) (x : A) (ks : List A) → Each (Apart before x) ks → firstTwo (sortedBy before (ls ++ x ∷ ks)) ≡ twoWith before (firstTwo (sortedBy before (ls ++ ks))) x
+    pub two-moved : (ls : List A) (x : A) (ks : List A) → Each (Apart before x) ks
+        → firstTwo (sortedBy before (ls ++ x ∷ ks)) ≡ twoWith before (firstTwo (sortedBy before (ls ++ ks))) x
     two-moved ls x ks h = ap firstTwo (sorted-moved ls x ks h) ∙ two-insert (sortedBy before (ls ++ ks)) x
