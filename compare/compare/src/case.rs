@@ -23,7 +23,7 @@ impl Room {
     }
 }
 
-/// The list that `next_eligible` reads: the Rust's own explanation of the case, or any bytes.
+/// The list that `next_eligible` reads: the case's own explanation, or any bytes.
 #[derive(Clone, Debug, PartialEq, Eq)]
 pub enum Listed {
     Explained,

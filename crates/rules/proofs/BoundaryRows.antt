@@ -140,7 +140,7 @@ marginRows =
     4
     96)
     refl
-    ∷ says "2 ^ 32 - 1, 10 ^ 9 and 0 win: no lever"
+    ∷ says "2 ^ 32 - 1, 10 ^ 9 and 0 win: none of these levers"
     (margin modelTwo unhurried (with 36 (0 ∷ 0 ∷ []) (with 42 (replicate 4 255) (million (0 ∷ 202 ∷ 154 ∷ 59 ∷ [])))))
     (boundary 2 (decision 42 2 2 2 0 1000000 (pos 7999999000000) 0 (pos 0) 1 1 7 3) false
     (lever 1 8000 5000 none ∷ noLever ∷ noLever ∷ noLever ∷ [])

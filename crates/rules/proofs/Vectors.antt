@@ -34,7 +34,7 @@ byteRows =
     ∷ says "a request's bytes, written" (inputBytes requestSaid) requestBytes70 refl
     ∷ says "a policy's bytes, read" (policyOf policyBytes30) policySaid refl
     ∷ says "a policy's bytes, written" (policyInBytes policySaid) policyBytes30 refl
-    ∷ says "an explanation of each verdict" (explained fourModels fourPolicy fourRequest fourExplained)
+    ∷ says "an explanation of each verdict" (explained fourModels fourPolicy fourRequest (replicate 288 255))
     (answered (decision 72623859790382856 2 2 1145258561 3 5261728424987371 (pos 1234605616686861287) 0 (pos 0) 4 1 11 12), fourExplained)
     refl
     ∷ says "a list one byte short: 4, and it is left alone" (explained bank policy request (replicate 143 255)) (refused (fault 4), replicate 143 255) refl

@@ -60,9 +60,6 @@ module _ (s : Side) (p : ℕ → Bool) where
     pub passes-of : n / 2 ^ 32 ≡ halve s p low high .passes
     passes-of = let a = end-narrow in omega arith
 
-    pub passes-few : n / 2 ^ 32 ≤ 32
-    passes-few = let a = passes-of in let b = few in omega arith
-
     -- THE END TRIED FIRST WINS: what the search answers
     pub first-won : {first : ℕ} → first ≡ firstTried s low high → p first ≡ true → At (n % 2 ^ 32) (n / 2 ^ 32 + 1) ≡ searchOf s p low high
     first-won ef y = rw (end-of, passes-of) (sym (search-yes s p low high o (rw ef at y)))
