@@ -1,9 +1,12 @@
 // The opening decision, and the best two that it was made from.
+ghost use mathlib.Core.Path.{_≡_};
 ghost use Prim.Native.Nat.{_≤_};
 ghost use lib.ListN.{length};
 ghost use Rattle.rules.specs.Limits.{maxCatalogModels};
 ghost use Rattle.rules.specs.Records.{recordsIn, listedOf};
-ghost use Rattle.others.specs.Others.{Opens};
+ghost use Rattle.rules.specs.Numbers.{toldDecision};
+ghost use Rattle.rules.specs.Decide.{decisionOf};
+ghost use Rattle.others.specs.Others.{topIn};
 use deciding::decide::decided;
 use deciding::decide::rejected;
 use deciding::stop::Stop;
@@ -25,7 +28,8 @@ pub struct Opening {
 // The decision over a bank of whole records, as `decide` makes it, with its best two. A stopped request has none.
 pub fn opened(policy: PolicySnapshot, bank: &[u8], input: KernelInput) -> Opening
     requires { ⌜ recordsIn (length (now bank)) ≤ maxCatalogModels ⌝ }
-    ensures { λ r. ⌜ Opens policy input (listedOf (now (bank .entry))) r ⌝ }
+    ensures decision { λ r. ⌜ toldDecision (r .decision) ≡ decisionOf policy input (listedOf (now (bank .entry))) ⌝ }
+    ensures top { λ r. ⌜ r .top ≡ topIn policy input (listedOf (now (bank .entry))) ⌝ }
 {
     let stop = stopped_by(policy, input);
     if let Stop::By(reason) = stop {

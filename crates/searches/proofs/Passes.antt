@@ -18,7 +18,8 @@ use Rattle.rules.specs.declared.boundary.Bound.{Bound}
 use Rattle.outset.proofs.Finding.{found-at}
 use Rattle.others.proofs.Offers.{selects-by-others}
 use Rattle.searches.specs.Asked.{winsBy, winsIn, questionOf, Stands}
-use Rattle.searches.specs.Held.{Says, winsOn}
+use Rattle.pricing.specs.Pricing.{Settled, pricingOf}
+use Rattle.searches.specs.Held.{placeIn, idIn, rivalIn, pricingIn, winsOn}
 use Rattle.searches.specs.declared.pass.Asked.{Asked}
 use Rattle.searches.proofs.Varied.{varied-at}
 
@@ -43,10 +44,12 @@ module _ (k : Asked) (bank : List ℕ) (stands : Stands k bank) where
   wins-so lever v e = e ∙ wins-at-value lever v
 
   -- WHAT A SEARCH MAKES OF ITS ARRAYS, where they say what is asked, is what the rules say of the bank, at every value
-  module _ (request varied : List ℕ) {ns : List ℕ} (eq : inputOf request ≡ k .input) (em : modelOf varied ≡ k .model) (says : Says k ns) where
+  module _ (request varied ns : List ℕ) (eq : inputOf request ≡ k .input) (em : modelOf varied ≡ k .model)
+      (says : (placeIn ns ≡ k .place) × (idIn ns ≡ k .id) × (rivalIn ns ≡ k .rival)
+      × (pricingIn ns ≡ pricingOf (k .policy) (k .input)) × Settled (pricingIn ns)) where
     held-at : (lever v : ℕ) → winsOn request varied ns lever v ≡ winsIn k lever v
     unfolding winsOn winsIn
-    held-at lever v = λ i. winsBy (says .pricing i) (eq i) (em i) (says .place i) (says .id i) (says .rival i) lever v
+    held-at lever v = λ i. winsBy (says .3 i) (eq i) (em i) (says .0 i) (says .1 i) (says .2 i) lever v
 
     -- so that a search over the one is a search over the other
     same-test : (lever : ℕ) → winsOn request varied ns lever ≡ wins (questionOf k bank) lever

@@ -1,15 +1,12 @@
 -- What a search holds in bytes and numbers, and the test that it makes of them.
 use Prim.Native.Nat.{ℕ, _%_, _^_}
-use mathlib.Core.Path.{_≡_}
 use mathlib.Core.Bool.{Bool}
 use mathlib.Core.List.{List}
 use lib.ListN.{getD}
 use Rattle.rules.specs.Records.{modelOf, inputOf}
-use Rattle.pricing.specs.Pricing.{Settled, pricingOf}
 use Rattle.pricing.specs.declared.Pricing.{Pricing}
 use Rattle.ranking.specs.declared.state.Candidate.{Candidate}
 use Rattle.searches.specs.Asked.{winsBy}
-use Rattle.searches.specs.declared.pass.Asked.{Asked}
 
 -- The place and the id of the model that is varied, the best of the others, and what is settled, as thirteen numbers say them
 abbrev pub placeIn : List ℕ → ℕ
@@ -37,14 +34,6 @@ pricingIn ns =
       «risk_penalty» = record { hi = getD ns 10 0; lo = getD ns 11 0 };
       «latency_pen_per_ms» = getD ns 12 0;
     }
-
--- Numbers that say what is asked, policy and request settled
-pub record Says (k : Asked) (ns : List ℕ) : Type 0 where
-  pub place : placeIn ns ≡ k .place
-  pub id : idIn ns ≡ k .id
-  pub rival : rivalIn ns ≡ k .rival
-  pub pricing : pricingIn ns ≡ pricingOf (k .policy) (k .input)
-  pub settled : Settled (pricingIn ns)
 
 -- Whether the model of some bytes, with a lever at a value, wins
 unfoldable pub winsOn : List ℕ → List ℕ → List ℕ → ℕ → ℕ → Bool

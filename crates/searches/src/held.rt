@@ -3,9 +3,9 @@
 ghost use mathlib.Core.Path.{_≡_};
 ghost use Prim.Native.Nat.{_≤_};
 ghost use Rattle.rules.specs.Records.{modelOf, inputOf};
-ghost use Rattle.pricing.specs.Pricing.{Settled};
+ghost use Rattle.pricing.specs.Pricing.{Settled, pricingOf};
 ghost use Rattle.searches.specs.Lever.{widest};
-ghost use Rattle.searches.specs.Held.{placeIn, idIn, rivalIn, pricingIn, Says, winsOn};
+ghost use Rattle.searches.specs.Held.{placeIn, idIn, rivalIn, pricingIn, winsOn};
 use crate::lever::lever_at;
 use crate::pass::Asked;
 use bank::input_from;
@@ -51,7 +51,8 @@ fn numbers_of(place: u16, id: u32, rival: Candidate, pricing: Pricing) -> Held
 
 // What is asked, in numbers.
 pub fn held_of(asked: Asked) -> Held
-    ensures { λ r. ⌜ Says asked r ⌝ }
+    ensures { λ r. ⌜ (placeIn r ≡ asked .place) × (idIn r ≡ asked .id) × (rivalIn r ≡ asked .rival)
+        × (pricingIn r ≡ pricingOf (asked .policy) (asked .input)) × Settled (pricingIn r) ⌝ }
 {
     let pricing = pricing_for(asked.policy, asked.input);
     numbers_of(asked.place, asked.id, asked.rival, pricing)

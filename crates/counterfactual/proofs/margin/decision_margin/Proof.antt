@@ -25,7 +25,7 @@ returns-2 c =
     let o = j .before .before .before in
     c .refused2 .ensures
     ∙ sym (boundary-passed _ _ (o .enum-told .given .1) (o .before .before .bank-outcome .ensures)
-    ∙ margin-rejected _ _ _ (j .before .before .opened .ensures .decision) (sym (j .is-rejected .ensures) ∙ c .before .if1 .taken))
+    ∙ margin-rejected _ _ _ (j .before .before .opened .ensures .0) (sym (j .is-rejected .ensures) ∙ c .before .if1 .taken))
 
 first-listed-requires : tie.Need-first-listed-requires
 first-listed-requires c κs =
@@ -40,7 +40,7 @@ returns-3 c =
     let o = j .before .before .before in
     c .refused3 .ensures
     ∙ sym (boundary-passed _ _ (o .enum-told .given .1) (o .before .before .bank-outcome .ensures)
-    ∙ margin-nowhere _ _ _ (j .before .before .opened .ensures .decision)
+    ∙ margin-nowhere _ _ _ (j .before .before .opened .ensures .0)
     (sym (j .is-rejected .ensures) ∙ f .before .if1 .left)
     (without (f .first-listed .result) _ (c .before .match2 .keys2) (f .first-listed .ensures)))
 
@@ -55,10 +55,10 @@ margin-levers-requires c κs =
     let f = k .before .before in
     let j = f .before .before in
     let o = j .before .before .before in
-    stands-at _ _ _ _ _ (c .asked-at .ensures) (j .before .before .opened .ensures .top)
+    stands-at _ _ _ _ _ (c .asked-at .ensures) (j .before .before .opened .ensures .1)
     (with-place (k .found .given .1) (f .first-listed .ensures))
     (none-told _ (o .enum-told .given .1) (o .before .before .bank-outcome .ensures))
-    (chosen-free _ _ _ (j .before .before .opened .ensures .decision) (sym (j .is-rejected .ensures) ∙ f .before .if1 .left))
+    (chosen-free _ _ _ (j .before .before .opened .ensures .0) (sym (j .is-rejected .ensures) ∙ f .before .if1 .left))
 
 returns-4 : tie.Need-returns-4
 unfolding decisionMarginOf
@@ -70,7 +70,7 @@ returns-4 c =
     let o = j .before .before .before in
     answer-made _ _ _ refl (c .before .margin-levers .ensures) (c .answered .ensures)
     ∙ sym (boundary-passed _ _ (o .enum-told .given .1) (o .before .before .bank-outcome .ensures)
-    ∙ margin-listed _ _ _ (j .before .before .opened .ensures .decision) _ _
+    ∙ margin-listed _ _ _ (j .before .before .opened .ensures .0) _ _
     (sym (j .is-rejected .ensures) ∙ f .before .if1 .left)
     (a .asked-at .ensures)
     (with-place (k .found .given .1) (f .first-listed .ensures)))

@@ -37,7 +37,7 @@ lowest-true-requires c κs =
     let h = c .before .before .before in
     let known = h .before .before .before .struct-known3 .given in
     record {
-      settled = h .held-of .ensures .settled;
+      settled = h .held-of .ensures .4;
       within = record { fits = omega arith; lowNarrow = omega arith; highNarrow = omega arith };
     }
 
@@ -48,7 +48,7 @@ highest-below-requires c κs =
     let known = h .before .before .before .struct-known3 .given in (
       omega arith,
       record {
-        settled = h .held-of .ensures .settled;
+        settled = h .held-of .ensures .4;
         within = record { fits = omega arith; lowNarrow = omega arith; highNarrow = omega arith };
       },
     )
@@ -59,7 +59,7 @@ highest-below-requires-2 c κs =
     let h = made (first (c .before .before .before)) in (
       omega arith,
       record {
-        settled = h .held-of .ensures .settled;
+        settled = h .held-of .ensures .4;
         within = record { fits = omega arith; lowNarrow = omega arith; highNarrow = omega arith };
       },
     )
@@ -71,7 +71,7 @@ lowest-above-requires c κs =
     let known = h .before .before .before .struct-known3 .given in (
       omega arith,
       record {
-        settled = h .held-of .ensures .settled;
+        settled = h .held-of .ensures .4;
         within = record { fits = omega arith; lowNarrow = omega arith; highNarrow = omega arith };
       },
     )
@@ -112,10 +112,10 @@ returns c =
     let n = h .held-of .ensures in
     let s = start h .pre in
     four-sought _ (c .four-levers .ensures) (p .price-cost .ensures)
-    (searched-so _ _ s _ _ q m n Lowest 1 _ _ (l1 .lowest-true .ensures))
-    (after-so _ _ s _ _ q m n Highest 2 _ _ (l2 .highest-below .ensures))
-    (after-so _ _ s _ _ q m n Highest 3 _ _ (l3 .highest-below2 .ensures))
-    (after-so _ _ s _ _ q m n Lowest 4 _ _ (l4 .lowest-above .ensures))
+    (searched-so _ _ s _ _ _ q m n Lowest 1 _ _ (l1 .lowest-true .ensures))
+    (after-so _ _ s _ _ _ q m n Highest 2 _ _ (l2 .highest-below .ensures))
+    (after-so _ _ s _ _ _ q m n Highest 3 _ _ (l3 .highest-below2 .ensures))
+    (after-so _ _ s _ _ _ q m n Lowest 4 _ _ (l4 .lowest-above .ensures))
 
 pub margin-levers-spec : {M : Type 1} → statement M
 margin-levers-spec =

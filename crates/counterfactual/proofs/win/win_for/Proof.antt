@@ -18,7 +18,7 @@ returns c =
     let n = c .before in
     let s = n .before .before .before in
     let o = s .before .before in
-    answer-made _ _ _ (o .opened .ensures .decision) (n .no-levers .ensures ∙ empty-room) (c .answered .ensures)
+    answer-made _ _ _ (o .opened .ensures .0) (n .no-levers .ensures ∙ empty-room) (c .answered .ensures)
     ∙ sym (win-listed _ _ _ _ _ (o .before .before .pre .0) ∙ win-stopped _ _ (s .stopped-by .ensures) (n .before .enum-told .given .1))
 
 returns-2 : tie.Need-returns-2
@@ -28,7 +28,7 @@ returns-2 c =
     let t = w .before in
     let s = t .before .before in
     let o = s .before .before in
-    let d = o .opened .ensures .decision in
+    let d = o .opened .ensures .0 in
     answer-made _ _ _ d (n .no-levers2 .ensures ∙ empty-room) (c .answered2 .ensures)
     ∙ sym (win-listed _ _ _ _ _ (o .before .before .pre .0)
     ∙ win-selected _ _ (s .stopped-by .ensures) (t .enum-told2 .given .1) (ap (selects _) (sym d) ∙ sym (w .selected .ensures) ∙ n .before .if1 .taken))
@@ -45,7 +45,7 @@ win-search-requires c κs =
     let s = t .before .before in
     let o = s .before .before in
     let h = o .before .before .pre in
-    stands-at _ _ _ _ _ (c .asked-at .ensures) (o .opened .ensures .top) (h .0) (h .1)
+    stands-at _ _ _ _ _ (c .asked-at .ensures) (o .opened .ensures .1) (h .0) (h .1)
     (open-free _ _ (s .stopped-by .ensures) (t .enum-told2 .given .1))
 
 returns-3 : tie.Need-returns-3
@@ -55,7 +55,7 @@ returns-3 c =
     let t = w .before in
     let s = t .before .before in
     let o = s .before .before in
-    let d = o .opened .ensures .decision in
+    let d = o .opened .ensures .0 in
     answer-made _ _ _ d (sought-at _ _ _ _ _ _ (k .asked-at .ensures) (c .before .win-search .ensures)) (c .answered3 .ensures)
     ∙ sym (win-listed _ _ _ _ _ (o .before .before .pre .0)
     ∙ win-sought _ _ (s .stopped-by .ensures) (t .enum-told2 .given .1) (ap (selects _) (sym d) ∙ sym (w .selected .ensures) ∙ k .before .if1 .left))

@@ -38,7 +38,7 @@ lowest-true-requires c κs =
     let h = c .before .before .before in
     let known = h .before .before .before .struct-known3 .given in
     record {
-      settled = h .held-of .ensures .settled;
+      settled = h .held-of .ensures .4;
       within = record { fits = omega arith; lowNarrow = omega arith; highNarrow = omega arith };
     }
 
@@ -48,7 +48,7 @@ highest-true-requires c κs =
     let h = made (c .before .before .before) in
     let known = h .before .before .before .struct-known3 .given in
     record {
-      settled = h .held-of .ensures .settled;
+      settled = h .held-of .ensures .4;
       within = record { fits = omega arith; lowNarrow = omega arith; highNarrow = omega arith };
     }
 
@@ -57,7 +57,7 @@ unfolding widest equal
 highest-true-requires-2 c κs =
     let h = made (first (c .before .before .before)) in
     record {
-      settled = h .held-of .ensures .settled;
+      settled = h .held-of .ensures .4;
       within = record { fits = omega arith; lowNarrow = omega arith; highNarrow = omega arith };
     }
 
@@ -67,7 +67,7 @@ lowest-true-requires-2 c κs =
     let h = made (first (second (c .before .before .before))) in
     let known = h .before .before .before .struct-known3 .given in
     record {
-      settled = h .held-of .ensures .settled;
+      settled = h .held-of .ensures .4;
       within = record { fits = omega arith; lowNarrow = omega arith; highNarrow = omega arith };
     }
 
@@ -111,10 +111,10 @@ returns c =
     let n = h .held-of .ensures in
     let s = start h .pre in
     four-sought _ (c .four-levers .ensures) (p .price-cost .ensures)
-    (searched-so _ _ s _ _ q m n Lowest 1 _ _ (l1 .lowest-true .ensures))
-    (searched-so _ _ s _ _ q m n Highest 2 _ _ (l2 .highest-true .ensures))
-    (searched-so _ _ s _ _ q m n Highest 3 _ _ (l3 .highest-true2 .ensures))
-    (searched-so _ _ s _ _ q m n Lowest 4 _ _ (l4 .lowest-true2 .ensures))
+    (searched-so _ _ s _ _ _ q m n Lowest 1 _ _ (l1 .lowest-true .ensures))
+    (searched-so _ _ s _ _ _ q m n Highest 2 _ _ (l2 .highest-true .ensures))
+    (searched-so _ _ s _ _ _ q m n Highest 3 _ _ (l3 .highest-true2 .ensures))
+    (searched-so _ _ s _ _ _ q m n Lowest 4 _ _ (l4 .lowest-true2 .ensures))
 
 pub win-levers-spec : {M : Type 1} → statement M
 win-levers-spec =

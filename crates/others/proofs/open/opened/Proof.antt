@@ -16,10 +16,7 @@ returns c =
     let s = r .before .before in
     let told = s .before .before .stopped-by .ensures in
     let by = s .stop .given .1 in
-    record {
-      decision = r .rejected .ensures ∙ sym (stopped-decision _ _ told _ by);
-      top = stopped-top _ _ _ told by (t .start .ensures);
-    }
+    (r .rejected .ensures ∙ sym (stopped-decision _ _ told _ by), stopped-top _ _ _ told by (t .start .ensures))
 
 scan-on-requires : tie.Need-scan-on-requires
 scan-on-requires c κs = (c .before .pricing-for .ensures .1, start-room _ (c .start2 .ensures) (omega arith))
@@ -31,11 +28,10 @@ returns-2 c =
     let told = o .before .before .stopped-by .ensures in
     let by = o .enum-told .given .1 in
     let priced = s .before .before .pricing-for .ensures .0 in
-    let run = s .scan-on .ensures in
-    record {
-      decision = c .decided .ensures ∙ whole-decides _ _ _ priced (s .before .start2 .ensures) run ∙ sym (open-decision _ _ told _ by);
-      top = open-top _ _ _ told by (whole-state _ _ _ priced (s .before .start2 .ensures) run);
-    }
+    let run = s .scan-on .ensures in (
+      c .decided .ensures ∙ whole-decides _ _ _ priced (s .before .start2 .ensures) run ∙ sym (open-decision _ _ told _ by),
+      open-top _ _ _ told by (whole-state _ _ _ priced (s .before .start2 .ensures) run),
+    )
 
 pub opened-spec : {M : Type 1} → statement M
 opened-spec =

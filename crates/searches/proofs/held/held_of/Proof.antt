@@ -8,7 +8,7 @@ returns : tie.Need-returns
 returns c =
     let n = c .numbers-of .ensures in
     let p = c .before .pricing-for .ensures in
-    record { place = n .0; id = n .1; rival = n .2; pricing = n .3 ∙ p .0; settled = rw (n .3) (p .1) }
+    (n .0, n .1, n .2, n .3 ∙ p .0, rw (n .3) (p .1))
 
 pub held-of-spec : {M : Type 1} → statement M
 held-of-spec = tie.close (tie.spec (λ c κs. search needs) (λ c κs. search needs) returns)
