@@ -1,22 +1,11 @@
 -- What the arguments ask, digit by digit. Assumes nothing.
-use Prim.Native.Nat.{ℕ, suc, _+_, _*_, _-_, _≤_, _<_}
-use mathlib.Core.Path.{_≡_, refl, sym, ap, _∙_}
-use mathlib.Core.Bool.{Bool, true, false}
-use mathlib.Core.List.{List, [], _∷_}
-use mathlib.Core.Logic.{_⊎_, inl, inr}
-use mathlib.Core.Option.{none}
-use native.Mathlib.Omega.{arith}
-use borrow.Author.Tests.{eq-eqb, eqb-true, ltb-true, ltb-false}
-use lib.Dec.{eqb, ltb}
-use lib.ListN.{length, getD, drop}
-use lib.Seq.{drop-cons, drop-length}
-use Rattle.rules.specs.Choice.{below, equal, pick}
-use Rattle.rules.proofs.Orders.{lt-or-le}
-use Rattle.rules.proofs.Choices.{below-yes, below-no, equal-yes, equal-no}
-use Rattle.rules.specs.Text.{text}
-use Rattle.ask.specs.Question.{numberAfter, idOrUnclear, aboutOf, inWords, sameText, questionOf}
-use Rattle.ask.specs.declared.question.Question.{Question}
-use Rattle.ask.specs.declared.question.Question.the-variants.{Lines, Words, Unclear}
+use Rattle.rules.proofs.Kit.{ℕ, suc, _+_, _*_, _-_, _≤_, _<_, _≡_, refl, sym, ap, _∙_, Bool, true, false, List, [], _∷_, _⊎_, inl, inr, none, arith, eq-eqb}
+use Rattle.rules.proofs.Kit.{eqb-true, eqb, length, getD, drop, drop-cons, drop-length}
+use Rattle.rules.specs.{Choice.below, Choice.equal, Choice.pick, Text.text}
+use Rattle.rules.proofs.{Orders.lt-or-le, Choices.below-yes, Choices.below-no, Choices.equal-yes, Choices.equal-no}
+use Rattle.ask.specs.{Question.numberAfter, Question.idOrUnclear, Question.aboutOf, Question.inWords, Question.sameText, Question.questionOf}
+use Rattle.ask.specs.{declared.question.Question.Question, declared.question.Question.the-variants.Lines, declared.question.Question.the-variants.Words}
+use Rattle.ask.specs.{declared.question.Question.the-variants.Unclear}
 
 -- A DIGIT goes to the end of the number
 pub digit-next : (n b : ℕ) (bs : List ℕ) → 48 ≤ b → b ≤ 57 → numberAfter n (b ∷ bs) ≡ numberAfter (n * 10 + (b - 48)) bs
@@ -140,7 +129,9 @@ module _ (count : ℕ) (first second : List ℕ) where
   ask-three h = equal-no _ _ _ _ (λ e. omega arith) ∙ equal-yes _ _ _ _ h
 
   pub ask-words : count ≡ 3 → second ≡ text "words" → questionOf count first second ≡ inWords (aboutOf first)
-  ask-words h e = ask-three h ∙ ap (λ (b : Bool). pick b (λ _. inWords (aboutOf first)) (λ _. Unclear)) (ap (λ (s : List ℕ). sameText s (text "words")) e ∙ same-self (text "words"))
+  ask-words h e =
+      ask-three h ∙ ap (λ (b : Bool). pick b (λ _. inWords (aboutOf first)) (λ _. Unclear))
+      (ap (λ (s : List ℕ). sameText s (text "words")) e ∙ same-self (text "words"))
 
   pub ask-unclear : count ≡ 3 → (second ≡ text "words" → ⊥) → questionOf count first second ≡ Unclear
   ask-unclear h k = ask-three h ∙ go (sameText second (text "words")) refl

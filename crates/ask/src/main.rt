@@ -5,12 +5,12 @@ mod question;
 ghost use Prim.Native.Nat.{_≤_};
 ghost use lib.ListN.{length};
 ghost use Rattle.io.specs.Counts.{Counts};
-ghost use Rattle.printed.specs.Sizes.{readBytes};
+ghost use Rattle.program_report.specs.Sizes.{readBytes};
 use libc::STDERR_FILENO;
 use libc::STDIN_FILENO;
 use libc::STDOUT_FILENO;
-use printed::sizes::INPUT_BYTES;
-use printed::sizes::WORDS_BYTES;
+use program_report::sizes::INPUT_BYTES;
+use program_report::sizes::WORDS_BYTES;
 use question::Question;
 
 // Standard input, as far as an answer depends on it.

@@ -4,9 +4,9 @@ ghost use Prim.Native.Nat.{_-_, _≤_};
 ghost use Rattle.rules.specs.Choice.{below};
 ghost use lib.ListN.{length, take};
 ghost use Rattle.io.specs.Counts.{Counts};
-ghost use Rattle.printed.specs.Sizes.{wordsBytes};
+ghost use Rattle.program_report.specs.Sizes.{wordsBytes};
 ghost use Rattle.ask.specs.Question.{aboutOf, inWords, questionOf, answerText};
-use printed::deliver::end_of;
+use program_report::deliver::end_of;
 
 pub(crate) enum Question {
     // An id alone.
@@ -21,7 +21,7 @@ pub(crate) enum Question {
 const MAX_ID: u64 = 0xffff_ffff;
 
 // What a digit's byte says; more than 9 for any other byte.
-fn digit(byte: u8) -> u64
+fn digit_value(byte: u8) -> u64
     ensures { λ r. ⌜ r ≡ below byte 48 10 (byte - 48) ⌝ }
 {
     if byte < b'0' {
@@ -40,7 +40,7 @@ fn about(text: &[u8]) -> Question
     let mut id: u64 = 0;
     let mut i = 0;
     while i < text.len() {
-        let next = digit(text[i]);
+        let next = digit_value(text[i]);
         if 9 < next {
             return Question::Unclear;
         }
@@ -96,8 +96,8 @@ pub(crate) fn answer(question: Question, input: &[u8], out: &mut [u8]) -> usize
     ensures { λ r. ⌜ take r (now (out .exit)) ≡ answerText question (now (input .entry)) ⌝ }
 {
     match question {
-        Question::Lines(id) => end_of(printed::ask_text(input, id, out)),
-        Question::Words(id) => end_of(words::ask_words(input, id, out)),
+        Question::Lines(id) => end_of(program_report::ask_text(input, id, out)),
+        Question::Words(id) => end_of(program_words::ask_words(input, id, out)),
         Question::Unclear => 0,
     }
 }

@@ -1,11 +1,6 @@
 -- ANY TWO PERMITTED ANSWERS ARE EQUAL, for each call that a user makes. Assumes nothing.
-use Prim.Native.Nat.{ℕ, _+_}
-use mathlib.Core.Path.{_≡_, sym, _∙_}
-use mathlib.Core.List.{List}
-use denote.Ref.{RefT, now, ptr}
-use Rattle.rules.specs.Records.{modelOf, inputOf, policyOf}
-use Rattle.rules.specs.Refused.{toldOutcome}
-use Rattle.rules.specs.Listing.{readingOf, recordOf, recordStart}
+use Rattle.rules.proofs.Kit.{ℕ, _+_, _≡_, sym, _∙_, List, RefT, now, ptr}
+use Rattle.rules.specs.{Records.modelOf, Records.inputOf, Records.policyOf, Refused.toldOutcome, Listing.readingOf, Listing.recordOf, Listing.recordStart}
 use Rattle.rules.proofs.Told.{Same, one-itself, one-outcome}
 
 pub one-reading : (bank : List ℕ) (place : ℕ) → Same toldOutcome (readingOf bank place)

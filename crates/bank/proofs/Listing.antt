@@ -1,10 +1,5 @@
 -- A bank as a list of records: how many there are, and which stands where. Assumes nothing.
-use Prim.Native.Nat.{ℕ, zero, suc, _+_, _<_}
-use mathlib.Core.List.{List, []}
-use mathlib.Core.Path.{_≡_, refl, ap}
-use native.Mathlib.Omega.{arith}
-use native.Mathlib.Nat.{zero-add, add-zero, add-suc, suc-add}
-use lib.ListN.{length, getD}
+use Rattle.rules.proofs.Kit.{ℕ, zero, suc, _+_, _<_, List, [], _≡_, refl, ap, arith, zero-add, add-zero, add-suc, suc-add, length, getD}
 use Rattle.rules.specs.Records.{Listed, listed, listedFrom, listedOf, modelAt, modelOf, recordsIn}
 
 length-from : (bank : List ℕ) (place n : ℕ) → length (listedFrom bank place n) ≡ n

@@ -1,20 +1,10 @@
 -- ANY TWO PERMITTED ANSWERS ARE EQUAL, outcome and row, for both calls; and each decision of a batch is the one that `prescribe` gives.
 -- Assumes nothing.
-use Prim.Native.Nat.{ℕ, _<_}
-use mathlib.Core.Path.{_≡_, refl, ap, ap₂}
-use mathlib.Core.List.{List, [], _∷_, map}
-use lib.ListN.{length, drop, getD, length-map, List·getD-append, List·getD-map}
-use lib.Seq.{drop-at}
-use Rattle.rules.specs.Bytes.{filled}
-use Rattle.rules.specs.Records.{listedOf}
-use Rattle.rules.specs.Refused.{Faults, bankFaults, answered, listUnless, toldOutcome}
-use Rattle.rules.specs.Numbers.{toldDecision, Decision}
-use Rattle.rules.specs.Decide.{decisionOf, prescribeOf}
-use Rattle.rules.specs.Batch.{batchFaults, batchCheckedFaults, decisionsOf, batchOf, batchRow, batchCheckedOf, batchCheckedRow}
-use Rattle.rules.specs.declared.records.KernelInput.{KernelInput}
-use Rattle.rules.specs.declared.records.PolicySnapshot.{PolicySnapshot}
-use Rattle.rules.specs.declared.decision.KernelDecision.{KernelDecision}
-use Rattle.rules.specs.declared.refusal.Outcome.{Outcome}
+use Rattle.rules.proofs.Kit.{ℕ, _<_, _≡_, refl, ap, ap₂, List, [], _∷_, map, length, drop, getD, length-map, List·getD-append, List·getD-map, drop-at}
+use Rattle.rules.specs.{Bytes.filled, Records.listedOf, Refused.Faults, Refused.bankFaults, Refused.answered, Refused.listUnless, Refused.toldOutcome}
+use Rattle.rules.specs.{Numbers.toldDecision, Numbers.Decision, Decide.decisionOf, Decide.prescribeOf, Batch.batchFaults, Batch.batchCheckedFaults}
+use Rattle.rules.specs.{Batch.decisionsOf, Batch.batchOf, Batch.batchRow, Batch.batchCheckedOf, Batch.batchCheckedRow, declared.records.KernelInput.KernelInput}
+use Rattle.rules.specs.{declared.records.PolicySnapshot.PolicySnapshot, declared.decision.KernelDecision.KernelDecision, declared.refusal.Outcome.Outcome}
 use Rattle.rules.proofs.Told.{one-answer, one-outcome, decisionFrom, decision-back}
 
 -- what is told of a row has a way back

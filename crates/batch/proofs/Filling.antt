@@ -1,14 +1,11 @@
 -- A row that is filled from its start, over any elements: before the first turn, one turn, after the last. Assumes nothing.
-use Prim.Native.Nat.{ℕ, zero, suc, _+_, _<_}
-use native.Mathlib.Omega.{arith}
-use native.Mathlib.Nat.{le-of-lt}
-use native.Mathlib.Numerals.{add-one}
-use mathlib.Core.Path.{_≡_, refl, ap, sym, _∙_}
-use mathlib.Core.List.{List, [], _∷_, _++_, map}
-use lib.ListN.{length, take, drop, getD, set, length-map, List·getD-map}
-use lib.Seq.{take-suc, drop-cons, append-snoc, set-at, take-all, length-take-le}
+use Rattle.rules.proofs.Kit.{ℕ, zero, suc, _+_, _<_, arith, le-of-lt, add-one, _≡_, refl, ap, sym, _∙_, List, [], _∷_, _++_, map, length, take, drop, getD, set}
+use Rattle.rules.proofs.Kit.{length-map, List·getD-map, take-suc, drop-cons, append-snoc, set-at, take-all, length-take-le}
 use Rattle.rules.specs.Bytes.{filled}
-use Rattle.batch.specs.Fill.{after, atLast}
+
+-- After so many turns: what so many requests come to, and then what stood there
+unfoldable pub after : {A B : Type 0} → (A → B) → List A → List B → ℕ → List B
+after f rs ys i = take i (map f rs) ++ drop i ys
 
 module _ {A B : Type 0} (f : A → B) (rs : List A) (ys : List B) where
   -- BEFORE THE FIRST TURN the row is as it was
@@ -29,8 +26,8 @@ module _ {A B : Type 0} (f : A → B) (rs : List A) (ys : List B) where
       ∙ ap (λ (j : ℕ). take j (map f rs) ++ drop j ys) (sym (add-one i))
 
   -- AFTER THE LAST ONE each element of the other row has filled its place, and the rest is as it was
-  pub at-last : atLast f rs ys ≡ filled (map f rs) ys
-  unfolding atLast after filled
+  pub at-last : after f rs ys (length rs) ≡ filled (map f rs) ys
+  unfolding after filled
   at-last = rw (take-all (length rs) (map f rs) (omega (arith, length-map rs f)), length-map)
 
 -- A row that is looked at through a function: what is stored is looked at too

@@ -3,27 +3,13 @@
 --     Handed     the policy, the bank, the row of requests and the row of decisions: where each stands, its ghost name and what it holds
 --     Filled     what `prescribe_batch` promises of its answer and of the row
 -- Assumes nothing.
-use mathlib.Core.Path.{_≡_}
-use mathlib.Core.List.{List, [], _∷_, map}
-use Prim.Native.Nat.{ℕ}
-use lib.ListN.{length}
-use mir.Syntax.{Ty, named, imm, mut, w8, w64, tyInt, tyRef}
-use mir.Val.{Val}
+use Rattle.rules.proofs.Kit.{_≡_, List, [], _∷_, map, ℕ, length, Ty, named, imm, mut, w8, w64, tyInt, tyRef, Val, RefT, now}
 use base.Fml.{Lft, Share, GName, Fml, fshr-bor}
 use contract.Lifetimes.{Lfts}
-use denote.Laws.{Is}
-use denote.Memory.{mem, shares, pointee}
-use denote.Builtin.{u8}
+use denote.{Laws.Is, Memory.mem, Memory.shares, Memory.pointee, Builtin.u8, Slice.sliceTy, Slice.sliceVal, Slice.ShrSlice}
 use types.Share.{arr-parts}
-use denote.Ref.{RefT, now}
-use denote.Slice.{sliceTy, sliceVal, ShrSlice}
-use Rattle.rules.specs.Refused.{toldOutcome}
-use Rattle.rules.specs.Numbers.{toldDecision, Decision}
-use Rattle.rules.specs.Batch.{batchOf, batchRow}
-use Rattle.rules.specs.declared.records.KernelInput.{KernelInput}
-use Rattle.rules.specs.declared.records.PolicySnapshot.{PolicySnapshot}
-use Rattle.rules.specs.declared.decision.KernelDecision.{KernelDecision}
-use Rattle.rules.specs.declared.refusal.Outcome.{Outcome}
+use Rattle.rules.specs.{Refused.toldOutcome, Numbers.toldDecision, Numbers.Decision, Batch.batchOf, Batch.batchRow, declared.records.KernelInput.KernelInput}
+use Rattle.rules.specs.{declared.records.PolicySnapshot.PolicySnapshot, declared.decision.KernelDecision.KernelDecision, declared.refusal.Outcome.Outcome}
 use Rattle.rules.proofs.records.KernelInput as Q
 use Rattle.rules.proofs.records.PolicySnapshot as P
 use Rattle.rules.proofs.records.PolicySnapshot.Laws as P′

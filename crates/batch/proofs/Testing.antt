@@ -1,26 +1,11 @@
--- The first number that tests hand back: of joined tests, and of a row of requests from place to place. Assumes nothing.
-use Prim.Native.Nat.{ℕ, suc, _+_, _<_, _≤_}
-use native.Mathlib.Numerals.{add-one}
-use mathlib.Core.Path.{_≡_, refl, ap, sym, _∙_}
-use mathlib.Core.Bool.{true, false}
-use mathlib.Core.List.{List, [], _∷_, _++_}
-use mathlib.Core.Option.{Option, none, some}
-use lib.ListN.{length, drop, getD, drop-of-length-le}
-use lib.Seq.{drop-cons}
-use Rattle.rules.specs.Refused.{Fault, Faults}
-use Rattle.rules.specs.Decide.{requestFaults}
-use Rattle.rules.specs.Batch.{requestsFaults}
-use Rattle.rules.specs.declared.records.KernelInput.{KernelInput}
-use Rattle.rules.specs.declared.refusal.Outcome.{Outcome}
-use Rattle.rules.specs.declared.refusal.Outcome.the-variants.{Answered, Refused}
-use Rattle.outset.specs.Refuse.{leading, toldLeading}
-use Rattle.batch.specs.Refuse.{refuses, orElse, badFrom}
-
--- JOINED TESTS hand back what the first ones do, else what those after them do
-pub leading-append : (fs gs : Faults) → leading (fs ++ gs) ≡ orElse (leading fs) (leading gs)
-unfolding leading orElse
-leading-append [] gs = refl
-leading-append (f ∷ fs) gs = refl
+-- What refuses a batch: an outcome that is a refusal or none, and a row of requests from place to place. Assumes nothing.
+use Rattle.rules.proofs.Kit.{ℕ, suc, _+_, _<_, _≤_, add-one, _≡_, refl, ap, sym, _∙_, true, false, List, _++_, Option, none, some, length, drop, getD}
+use Rattle.rules.proofs.Kit.{drop-of-length-le, drop-cons}
+use Rattle.rules.specs.{Refused.Fault, Refused.Faults, Refused.firstFault, Refused.orElse, Refused.toldOutcome, Decide.requestFaults, Batch.requestsFaults}
+use Rattle.rules.specs.{declared.records.KernelInput.KernelInput, declared.refusal.Outcome.Outcome, declared.refusal.Outcome.the-variants.Answered}
+use Rattle.rules.specs.{declared.refusal.Outcome.the-variants.Refused}
+use Rattle.rules.proofs.Faults.{none-told, append-refused}
+use Rattle.batch.specs.Refuse.{refuses}
 
 -- An outcome that is no refusal is an answer
 pub not-refused : (o : Outcome) → refuses o ≡ false → o ≡ Answered
@@ -28,49 +13,37 @@ unfolding refuses
 not-refused Answered e = refl
 not-refused (Refused r) e = cc
 
--- A refusal comes before what is after it, an answer leaves it to that
-pub refused-else : (o : Outcome) (later : Option Fault) → refuses o ≡ true → orElse (toldLeading o) later ≡ toldLeading o
-unfolding refuses orElse toldLeading
-refused-else Answered later e = cc
-refused-else (Refused r) later e = refl
+-- A refusal comes before whatever is tested after it
+refused-first : (o : Outcome) (fs gs : Faults) → toldOutcome o ≡ firstFault fs → refuses o ≡ true → toldOutcome o ≡ firstFault (fs ++ gs)
+unfolding refuses
+refused-first Answered fs gs told e = cc
+refused-first (Refused r) fs gs told e = append-refused fs gs refl told
 
-pub answered-else : (o : Outcome) (later : Option Fault) → refuses o ≡ false → orElse (toldLeading o) later ≡ later
-unfolding refuses orElse toldLeading
-answered-else Answered later e = refl
-answered-else (Refused r) later e = cc
-
--- where what is after it is a refusal, the first of two is one
-pub else-refused : (o later : Outcome) (first : Option Fault) → refuses later ≡ true → toldLeading o ≡ orElse first (toldLeading later) → refuses o ≡ true
-unfolding refuses orElse toldLeading
+-- and where it is what comes after, the first of two is one
+pub else-refused : (o later : Outcome) (first : Option Fault) → refuses later ≡ true → toldOutcome o ≡ orElse first (toldOutcome later) → refuses o ≡ true
+unfolding refuses orElse toldOutcome
 else-refused (Refused r) later first e is = refl
 else-refused Answered Answered first e is = e
 else-refused Answered (Refused r) none e is = cc
 else-refused Answered (Refused r) (some f) e is = cc
 
--- THE FIRST OF A ROW OF REQUESTS is that of the rules
-pub bad-requests : (place : ℕ) (qs : List KernelInput) → badFrom place qs ≡ leading (requestsFaults place qs)
-unfolding badFrom requestsFaults leading
-bad-requests place [] = refl
-bad-requests place (q ∷ qs) =
-    ap (orElse (leading (requestFaults q place))) (bad-requests (suc place) qs) ∙ sym (leading-append (requestFaults q place) (requestsFaults (suc place) qs))
-
 -- ---- from place to place
 
 module _ (qs : List KernelInput) (i : ℕ) where
   -- past the last request there is none
-  pub bad-none : length qs ≤ i → toldLeading Answered ≡ badFrom i (drop i qs)
-  unfolding badFrom toldLeading
-  bad-none h = sym (ap (badFrom i) (drop-of-length-le qs h))
+  pub bad-none : length qs ≤ i → toldOutcome Answered ≡ firstFault (requestsFaults i (drop i qs))
+  unfolding requestsFaults toldOutcome firstFault
+  bad-none h = sym (ap (λ (rest : List KernelInput). firstFault (requestsFaults i rest)) (drop-of-length-le qs h))
 
-  module _ (d : KernelInput) (o : Outcome) (inside : i < length qs) (told : toldLeading o ≡ leading (requestFaults (getD qs i d) i)) where
-    here : badFrom i (drop i qs) ≡ orElse (toldLeading o) (badFrom (suc i) (drop (suc i) qs))
-    unfolding badFrom
-    here = ap (badFrom i) (drop-cons qs i d inside) ∙ rw told
+  module _ (d : KernelInput) (o : Outcome) (inside : i < length qs) (told : toldOutcome o ≡ firstFault (requestFaults (getD qs i d) i)) where
+    here : requestsFaults i (drop i qs) ≡ requestFaults (getD qs i d) i ++ requestsFaults (suc i) (drop (suc i) qs)
+    unfolding requestsFaults
+    here = ap (requestsFaults i) (drop-cons qs i d inside)
 
     -- the request at a place is refused
-    pub bad-here : refuses o ≡ true → toldLeading o ≡ badFrom i (drop i qs)
-    bad-here e = sym (here ∙ refused-else o _ e)
+    pub bad-here : refuses o ≡ true → toldOutcome o ≡ firstFault (requestsFaults i (drop i qs))
+    bad-here e = refused-first o _ _ told e ∙ ap firstFault (sym here)
 
     -- or the search goes on at the next
-    pub bad-next : refuses o ≡ false → badFrom i (drop i qs) ≡ badFrom (i + 1) (drop (i + 1) qs)
-    bad-next e = here ∙ answered-else o _ e ∙ rw (add-one i)
+    pub bad-next : refuses o ≡ false → requestsFaults i (drop i qs) ≡ requestsFaults (i + 1) (drop (i + 1) qs)
+    bad-next e = here ∙ rw (none-told _ (not-refused o e) told, add-one i)

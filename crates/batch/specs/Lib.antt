@@ -1,3 +1,2 @@
--- What a batch refuses first, and a row that is filled from its start.
+-- Whether an outcome refuses.
 pub mod Refuse
-pub mod Fill

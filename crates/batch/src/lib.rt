@@ -5,16 +5,14 @@ mod refuse;
 ghost use mathlib.Core.Path.{_≡_};
 ghost use mathlib.Core.List.{map};
 ghost use lib.ListN.{length};
-ghost use Rattle.rules.specs.Refused.{toldOutcome};
+ghost use Rattle.rules.specs.Refused.{toldOutcome, firstFault};
 ghost use Rattle.rules.specs.Numbers.{toldDecision};
-ghost use Rattle.rules.specs.Batch.{batchOf, batchRow, batchCheckedOf, batchCheckedRow};
-ghost use Rattle.outset.specs.Refuse.{toldLeading};
-ghost use Rattle.batch.specs.Refuse.{badFrom};
+ghost use Rattle.rules.specs.Batch.{requestsFaults, batchOf, batchRow, batchCheckedOf, batchCheckedRow};
 use crate::refuse::batch_outcome;
-use crate::refuse::checked_outcome;
+use crate::refuse::checked_batch_outcome;
 use crate::refuse::is_refused;
-use deciding::decide::decide;
-use outset::refuse::input_outcome;
+use call_checks::refuse::input_outcome;
+use kernel_decide::decide::decide;
 use rules::KernelDecision;
 use rules::KernelInput;
 use rules::Outcome;
@@ -45,7 +43,7 @@ pub fn prescribe_batch(
 
 // The first request with a field above 10,000: 3, with its place.
 fn first_bad(inputs: &[KernelInput]) -> Outcome
-    ensures { λ r. ⌜ toldLeading r ≡ badFrom 0 (now (inputs .entry)) ⌝ }
+    ensures { λ r. ⌜ toldOutcome r ≡ firstFault (requestsFaults 0 (now (inputs .entry))) ⌝ }
 {
     let n = inputs.len();
     let mut at = 0;
@@ -70,7 +68,7 @@ pub fn prescribe_batch_checked(
 {
     let bad = first_bad(inputs);
     if is_refused(bad) {
-        return checked_outcome(bank.len(), inputs.len(), row.len(), bad);
+        return checked_batch_outcome(bank.len(), inputs.len(), row.len(), bad);
     }
     prescribe_batch(policy, bank, inputs, row)
 }

@@ -4,10 +4,10 @@ ghost use lib.ListN.{length};
 use crate::marks::MARK;
 use crate::marks::REFUSED;
 use crate::marks::settled;
-use printed::ask_text;
-use printed::unit_text;
+use program_report::ask_text;
+use program_report::unit_text;
+use program_words::ask_words;
 use rules::Written;
-use words::ask_words;
 
 // The printing calls, by their numbers; the third is `ask_words`.
 pub(crate) const CALLS: usize = 3;

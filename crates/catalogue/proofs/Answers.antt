@@ -1,14 +1,8 @@
 -- ANY TWO PERMITTED ANSWERS ARE EQUAL, for each call that a user makes: what is told has a way back, and the bank at exit is the rule's.
 -- Assumes nothing.
-use Prim.Native.Nat.{ℕ}
-use mathlib.Core.List.{List}
-use mathlib.Core.Path.{_≡_, sym, _∙_}
-use Rattle.rules.specs.Refused.{toldOutcome, toldTrusted}
-use Rattle.rules.specs.Validate.{validateOf}
-use Rattle.rules.specs.Trust.{trustOf, trustBank}
-use Rattle.rules.specs.declared.refusal.Outcome.{Outcome}
-use Rattle.rules.specs.declared.refusal.Trusted.{Trusted}
-use Rattle.rules.specs.declared.records.PolicySnapshot.{PolicySnapshot}
+use Rattle.rules.proofs.Kit.{ℕ, List, _≡_, sym, _∙_}
+use Rattle.rules.specs.{Refused.toldOutcome, Refused.toldTrusted, Validate.validateOf, Trust.trustOf, Trust.trustBank, declared.refusal.Outcome.Outcome}
+use Rattle.rules.specs.{declared.refusal.Trusted.Trusted, declared.records.PolicySnapshot.PolicySnapshot}
 use Rattle.rules.proofs.Told.{one-outcome, one-trusted}
 
 module _ (p : PolicySnapshot) (bank : List ℕ) where

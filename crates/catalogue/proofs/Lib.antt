@@ -1,5 +1,4 @@
--- The laws of the tests, stage by stage and record by record, and of the two calls.
+-- The laws of the tests, stage by stage, and of the two calls.
 pub mod Walks
-pub mod Rising
 pub mod Trusting
 pub mod Answers

@@ -1,150 +1,65 @@
 -- The tests that go over a bank's records, from a place on: what one record hands back, or leaves to those after it. Assumes nothing.
-use Prim.Native.Nat.{ℕ, _+_, _/_, _<_, _≤_}
-use native.Mathlib.Numerals.{add-one}
-use native.Mathlib.Omega.{arith}
-use mathlib.Core.Path.{_≡_, sym, ap, _∙_}
-use mathlib.Core.List.{List, [], _∷_, _++_}
-use lib.ListN.{length, getD, take, drop, length-map, List·getD-map}
-use lib.Seq.{take-suc, drop-cons, drop-length, length-take-le, getD-take}
-use Rattle.rules.specs.Records.{Listed, listed, listedOf, modelOf, modelAt, recordPart}
-use Rattle.rules.specs.Refused.{Faults, fault, modelFault}
-use Rattle.rules.specs.Validate.{emptyFaults, repeatFaults, recordFaults, recordsFaults, offFaults}
-use Rattle.rules.specs.Trust.{reservedFaults, flagFaults, idOf}
-use Rattle.rules.specs.declared.records.KernelModel.{KernelModel}
-use Rattle.rules.proofs.Choices.{below-yes, below-no, equal-yes, equal-no}
-use Rattle.bank.proofs.Listing.{length-listed, listed-at}
-use Rattle.catalogue.specs.Ids.{idsOf}
-
--- what stands past the end
-abbrev nowhere : Listed
-nowhere = listed 0 (modelOf [])
-
-abbrev pub noId : ℕ
-noId = nowhere .model .«model_id»
+use Rattle.rules.proofs.Kit.{lt-ltb, le-ltb, eq-eqb, ne-eqb, ℕ, _+_, _/_, _<_, _≤_, _≡_, sym, _∙_, List, [], _∷_, length}
+use Rattle.rules.specs.{Records.listedOf, Records.modelAt, Records.recordPart, Refused.fault, Refused.modelFault, Validate.emptyFaults, Validate.offFaults}
+use Rattle.rules.specs.{Trust.reservedFaults, Trust.flagFaults, Trust.idOf, declared.records.KernelModel.KernelModel}
+use Rattle.rules.proofs.Choices.{equal-yes, equal-no}
+use Rattle.bank.proofs.Listing.{length-listed}
+use Rattle.catalogue_records.proofs.Walks.{rest, tail, end, id-model}
 
 module _ (bank : List ℕ) where
-  -- the records from the i-th on
-  abbrev pub rest : ℕ → List Listed
-  rest i = drop i (listedOf bank)
-
-  tail : (i : ℕ) → i < length bank / 47 → rest i ≡ listed i (modelAt bank i) ∷ rest (i + 1)
-  tail i h =
-      let k : i < length (listedOf bank) = rw length-listed h in
-      rw (add-one, drop-cons (listedOf bank) i nowhere k, listed-at bank i nowhere h)
-
-  end : (i : ℕ) → i ≡ length bank / 47 → rest i ≡ []
-  end i e = rw (e ∙ sym (length-listed bank), drop-length)
-
-  -- the id at a place
-  pub id-model : (i id : ℕ) → id ≡ idOf (recordPart bank i) → id ≡ modelAt bank i .«model_id»
-  unfolding idOf
-  id-model i id e = e
-
   -- ---- 11
 
   pub empty-yes : length bank / 47 ≡ 0 → emptyFaults (listedOf bank) ≡ fault 11 ∷ []
   unfolding emptyFaults
-  empty-yes e = equal-yes _ _ _ _ (length-listed bank ∙ e)
+  empty-yes e = rw (eq-eqb _ _ (length-listed bank ∙ e))
 
   pub empty-no : (length bank / 47 ≡ 0 → ⊥) → emptyFaults (listedOf bank) ≡ []
   unfolding emptyFaults
-  empty-no e = equal-no _ _ _ _ (λ k. e (sym (length-listed bank) ∙ k))
+  empty-no e = rw (ne-eqb _ _ (λ k. e (sym (length-listed bank) ∙ k)))
 
   -- ---- 16
 
-  pub reserved-here : (i id : ℕ) → i < length bank / 47 → id ≡ idOf (recordPart bank i) → id ≡ 0 → reservedFaults (rest i) ≡ fault 16 ∷ []
+  pub reserved-here : (i id : ℕ) → i < length bank / 47 → id ≡ idOf (recordPart bank i) → id ≡ 0
+      → reservedFaults (rest bank i) ≡ fault 16 ∷ reservedFaults (rest bank (i + 1))
   unfolding reservedFaults
-  reserved-here i id h e z = rw (tail i h, equal-yes _ _ _ _ (sym (id-model i id e) ∙ z))
+  reserved-here i id h e z = rw (tail bank i h, eq-eqb _ _ (sym (id-model bank i id e) ∙ z))
 
-  pub reserved-later : (i id : ℕ) → i < length bank / 47 → id ≡ idOf (recordPart bank i) → (id ≡ 0 → ⊥) → reservedFaults (rest i) ≡ reservedFaults (rest (i + 1))
+  pub reserved-later : (i id : ℕ) → i < length bank / 47 → id ≡ idOf (recordPart bank i) → (id ≡ 0 → ⊥)
+      → reservedFaults (rest bank i) ≡ reservedFaults (rest bank (i + 1))
   unfolding reservedFaults
-  reserved-later i id h e z = rw (tail i h, equal-no _ _ _ _ (λ k. z (id-model i id e ∙ k)))
+  reserved-later i id h e z = rw (tail bank i h, ne-eqb _ _ (λ k. z (id-model bank i id e ∙ k)))
 
-  pub reserved-none : (i : ℕ) → i ≡ length bank / 47 → reservedFaults (rest i) ≡ []
+  pub reserved-none : (i : ℕ) → i ≡ length bank / 47 → reservedFaults (rest bank i) ≡ []
   unfolding reservedFaults
-  reserved-none i e = rw (end i e)
+  reserved-none i e = rw (end bank i e)
 
   -- ---- 17
 
-  pub flag-here : (i : ℕ) (m : KernelModel) → i < length bank / 47 → m ≡ modelAt bank i → 1 < m .enabled → flagFaults (rest i) ≡ modelFault 17 0 (m .«model_id») (m .enabled) ∷ []
+  pub flag-here : (i : ℕ) (m : KernelModel) → i < length bank / 47 → m ≡ modelAt bank i → 1 < m .enabled
+      → flagFaults (rest bank i) ≡ modelFault 17 0 (m .«model_id») (m .enabled) ∷ flagFaults (rest bank (i + 1))
   unfolding flagFaults
-  flag-here i m h e z = rw (tail i h, ← e, below-yes _ _ _ _ z)
+  flag-here i m h e z = rw (tail bank i h, ← e, lt-ltb _ _ z)
 
-  pub flag-later : (i : ℕ) (m : KernelModel) → i < length bank / 47 → m ≡ modelAt bank i → m .enabled ≤ 1 → flagFaults (rest i) ≡ flagFaults (rest (i + 1))
+  pub flag-later : (i : ℕ) (m : KernelModel) → i < length bank / 47 → m ≡ modelAt bank i → m .enabled ≤ 1
+      → flagFaults (rest bank i) ≡ flagFaults (rest bank (i + 1))
   unfolding flagFaults
-  flag-later i m h e z = rw (tail i h, ← e, below-no _ _ _ _ z)
+  flag-later i m h e z = rw (tail bank i h, ← e, le-ltb _ _ z)
 
-  pub flag-none : (i : ℕ) → i ≡ length bank / 47 → flagFaults (rest i) ≡ []
+  pub flag-none : (i : ℕ) → i ≡ length bank / 47 → flagFaults (rest bank i) ≡ []
   unfolding flagFaults
-  flag-none i e = rw (end i e)
+  flag-none i e = rw (end bank i e)
 
   -- ---- 15
 
-  pub on-here : (i : ℕ) (m : KernelModel) → i < length bank / 47 → m ≡ modelAt bank i → (m .enabled ≡ 0 → ⊥) → offFaults (rest i) ≡ []
+  pub on-here : (i : ℕ) (m : KernelModel) → i < length bank / 47 → m ≡ modelAt bank i → (m .enabled ≡ 0 → ⊥) → offFaults (rest bank i) ≡ []
   unfolding offFaults
-  on-here i m h e z = rw (tail i h, ← e, equal-no _ _ _ _ z)
+  on-here i m h e z = rw (tail bank i h, ← e, equal-no _ _ _ _ z)
 
-  pub off-here : (i : ℕ) (m : KernelModel) → i < length bank / 47 → m ≡ modelAt bank i → m .enabled ≡ 0 → offFaults (rest i) ≡ offFaults (rest (i + 1))
+  pub off-here : (i : ℕ) (m : KernelModel) → i < length bank / 47 → m ≡ modelAt bank i → m .enabled ≡ 0
+      → offFaults (rest bank i) ≡ offFaults (rest bank (i + 1))
   unfolding offFaults
-  off-here i m h e z = rw (tail i h, ← e, equal-yes _ _ _ _ z)
+  off-here i m h e z = rw (tail bank i h, ← e, equal-yes _ _ _ _ z)
 
-  pub off-all : (i : ℕ) → i ≡ length bank / 47 → offFaults (rest i) ≡ fault 15 ∷ []
+  pub off-all : (i : ℕ) → i ≡ length bank / 47 → offFaults (rest bank i) ≡ fault 15 ∷ []
   unfolding offFaults
-  off-all i e = rw (end i e)
-
-  -- ---- the ids before a place
-
-  abbrev pub ids : List ℕ
-  ids = idsOf (listedOf bank)
-
-  pub length-ids : length ids ≡ length bank / 47
-  length-ids = length-map (listedOf bank) (λ l. l .model .«model_id») ∙ length-listed bank
-
-  pub id-at-place : (i : ℕ) → i < length bank / 47 → getD ids i noId ≡ modelAt bank i .«model_id»
-  id-at-place i h =
-      List·getD-map (λ l. l .model .«model_id») (listedOf bank) i nowhere ∙ ap (λ (l : Listed). l .model .«model_id») (listed-at bank i nowhere h)
-
-  more-ids : (i : ℕ) → i < length bank / 47 → take (i + 1) ids ≡ take i ids ++ (modelAt bank i .«model_id» ∷ [])
-  more-ids i h =
-      let k : i < length ids = rw length-ids h in
-      rw (add-one, take-suc ids i noId k, id-at-place i h)
-
-  -- ---- 12, from the i-th id before the place on
-
-  abbrev pub before : ℕ → ℕ → List ℕ
-  before place i = drop i (take place ids)
-
-  before-length : (place : ℕ) → place ≤ length bank / 47 → length (take place ids) ≡ place
-  before-length place p = length-take-le place ids (rw length-ids p)
-
-  before-tail : (place i : ℕ) → place ≤ length bank / 47 → i < place → before place i ≡ modelAt bank i .«model_id» ∷ before place (i + 1)
-  before-tail place i p h =
-      let k : i < length (take place ids) = rw (before-length place p) h in
-      rw (add-one, drop-cons (take place ids) i noId k, getD-take place ids i noId h, id-at-place i (omega arith))
-
-  module _ (place i seen id : ℕ) (p : place ≤ length bank / 47) (h : i < place) (its : seen ≡ idOf (recordPart bank i)) where
-    pub repeat-here : seen ≡ id → repeatFaults (before place i) id ≡ modelFault 12 0 id 0 ∷ []
-    unfolding repeatFaults
-    repeat-here z = rw (before-tail place i p h, equal-yes _ _ _ _ (sym (id-model i seen its) ∙ z))
-
-    pub repeat-later : (seen ≡ id → ⊥) → repeatFaults (before place i) id ≡ repeatFaults (before place (i + 1)) id
-    unfolding repeatFaults
-    repeat-later z = rw (before-tail place i p h, equal-no _ _ _ _ (λ k. z (id-model i seen its ∙ k)))
-
-  pub repeat-none : (place i id : ℕ) → place ≤ length bank / 47 → i ≡ place → repeatFaults (before place i) id ≡ []
-  unfolding repeatFaults
-  repeat-none place i id p e = rw (e ∙ sym (before-length place p), drop-length)
-
-  -- ---- record by record
-
-  -- the records from the i-th on, by the ids before it
-  abbrev pub recordsLeft : ℕ → Faults
-  recordsLeft i = recordsFaults (take i ids) (rest i)
-
-  pub records-next : (i : ℕ) → i < length bank / 47 → recordsLeft i ≡ recordFaults (take i ids) (modelAt bank i) ++ recordsLeft (i + 1)
-  unfolding recordsFaults
-  records-next i h = rw (more-ids i h, tail i h)
-
-  pub records-end : (i : ℕ) → i ≡ length bank / 47 → recordsLeft i ≡ []
-  unfolding recordsFaults
-  records-end i e = rw (end i e)
+  off-all i e = rw (end bank i e)

@@ -4,13 +4,12 @@ ghost use Prim.Native.Nat.{_%_};
 ghost use lib.ListN.{length};
 ghost use Rattle.rules.specs.Limits.{recordBytes};
 ghost use Rattle.rules.specs.Records.{listedOf};
-ghost use Rattle.rules.specs.Refused.{toldTrusted};
+ghost use Rattle.rules.specs.Refused.{toldTrusted, firstFault, toldOutcome};
 ghost use Rattle.rules.specs.Validate.{catalogFaults};
 ghost use Rattle.rules.specs.Trust.{reservedFaults, flagFaults, earlyFaults, orderedOf, trustOf, trustBank};
-ghost use Rattle.outset.specs.Refuse.{leading, toldLeading};
 use crate::validation::catalog_outcome;
 use bank::unchecked::model_at;
-use outset::refuse::bank_outcome;
+use call_checks::refuse::bank_outcome;
 use rules::Outcome;
 use rules::PolicySnapshot;
 use rules::Refusal;
@@ -21,7 +20,7 @@ use sorting::insertion::order;
 
 // 16 where some id is 0, which a rejection carries.
 fn reserved_outcome(bank: &[u8]) -> Outcome
-    ensures { λ r. ⌜ toldLeading r ≡ leading (reservedFaults (listedOf (now (bank .entry)))) ⌝ }
+    ensures { λ r. ⌜ toldOutcome r ≡ firstFault (reservedFaults (listedOf (now (bank .entry)))) ⌝ }
 {
     let n = bank.len() / RECORD_BYTES;
     let mut i = 0;
@@ -37,7 +36,7 @@ fn reserved_outcome(bank: &[u8]) -> Outcome
 
 // 17 for the first record whose enabled is above 1.
 fn flag_outcome(bank: &[u8]) -> Outcome
-    ensures { λ r. ⌜ toldLeading r ≡ leading (flagFaults (listedOf (now (bank .entry)))) ⌝ }
+    ensures { λ r. ⌜ toldOutcome r ≡ firstFault (flagFaults (listedOf (now (bank .entry)))) ⌝ }
 {
     let n = bank.len() / RECORD_BYTES;
     let mut i = 0;
@@ -56,7 +55,7 @@ fn flag_outcome(bank: &[u8]) -> Outcome
 
 // What is found before the ordering: 1, 2, then 16 over the whole bank, then 17.
 fn early_outcome(bank: &[u8]) -> Outcome
-    ensures { λ r. ⌜ toldLeading r ≡ leading (earlyFaults (now (bank .entry))) ⌝ }
+    ensures { λ r. ⌜ toldOutcome r ≡ firstFault (earlyFaults (now (bank .entry))) ⌝ }
 {
     let whole = bank_outcome(bank.len());
     if let Outcome::Refused(refusal) = whole {
@@ -72,7 +71,7 @@ fn early_outcome(bank: &[u8]) -> Outcome
 // The bank in ascending id order, and what validation of it finds.
 fn ordered_outcome(policy: PolicySnapshot, bank: &mut [u8]) -> Outcome
     requires { ⌜ length (now bank) % recordBytes ≡ 0 ⌝ }
-    ensures { λ r. ⌜ (toldLeading r ≡ leading (catalogFaults policy (listedOf (orderedOf (now (bank .entry)))))) × (now (bank .exit) ≡ orderedOf (now (bank .entry))) ⌝ }
+    ensures { λ r. ⌜ (toldOutcome r ≡ firstFault (catalogFaults policy (listedOf (orderedOf (now (bank .entry)))))) × (now (bank .exit) ≡ orderedOf (now (bank .entry))) ⌝ }
 {
     order(bank);
     catalog_outcome(policy, bank)

@@ -1,12 +1,11 @@
 // Validation of a policy with its catalogue: 10, 11, the records, 15.
 ghost use mathlib.Core.Path.{_≡_};
 ghost use Rattle.rules.specs.Records.{listedOf};
-ghost use Rattle.rules.specs.Refused.{toldOutcome};
+ghost use Rattle.rules.specs.Refused.{toldOutcome, firstFault};
 ghost use Rattle.rules.specs.Validate.{policyFaults, offFaults, catalogFaults, validateOf};
-ghost use Rattle.outset.specs.Refuse.{leading, toldLeading};
-use crate::records::records_outcome;
 use bank::unchecked::model_at;
-use outset::refuse::bank_outcome;
+use call_checks::refuse::bank_outcome;
+use catalogue_records::records_outcome;
 use rules::Outcome;
 use rules::PolicySnapshot;
 use rules::Refusal;
@@ -16,7 +15,7 @@ use rules::limits::RECORD_BYTES;
 
 // 10 for the first limit of the policy that is too high.
 fn policy_outcome(policy: PolicySnapshot) -> Outcome
-    ensures { λ r. ⌜ toldLeading r ≡ leading (policyFaults policy) ⌝ }
+    ensures { λ r. ⌜ toldOutcome r ≡ firstFault (policyFaults policy) ⌝ }
 {
     if MAX_BPS < policy.hard_risk_limit_bps {
         return Outcome::Refused(Refusal::PolicyOutOfRange {
@@ -41,7 +40,7 @@ fn policy_outcome(policy: PolicySnapshot) -> Outcome
 
 // 15 where no record is switched on.
 fn off_outcome(bank: &[u8]) -> Outcome
-    ensures { λ r. ⌜ toldLeading r ≡ leading (offFaults (listedOf (now (bank .entry)))) ⌝ }
+    ensures { λ r. ⌜ toldOutcome r ≡ firstFault (offFaults (listedOf (now (bank .entry)))) ⌝ }
 {
     let n = bank.len() / RECORD_BYTES;
     let mut i = 0;
@@ -57,7 +56,7 @@ fn off_outcome(bank: &[u8]) -> Outcome
 
 // A policy with the records of a bank, in that order.
 pub fn catalog_outcome(policy: PolicySnapshot, bank: &[u8]) -> Outcome
-    ensures { λ r. ⌜ toldLeading r ≡ leading (catalogFaults policy (listedOf (now (bank .entry)))) ⌝ }
+    ensures { λ r. ⌜ toldOutcome r ≡ firstFault (catalogFaults policy (listedOf (now (bank .entry)))) ⌝ }
 {
     let limits = policy_outcome(policy);
     if let Outcome::Refused(refusal) = limits {

@@ -1,12 +1,8 @@
 -- ANY TWO PERMITTED ANSWERS ARE EQUAL, for both calls: the rule that a promise cites is told, and what is told has a way back. Assumes
 -- nothing.
-use Prim.Native.Nat.{ℕ}
-use mathlib.Core.List.{List}
-use Rattle.rules.specs.Numbers.{toldBoundaries}
-use Rattle.rules.specs.Win.{whatWouldWinOf}
-use Rattle.rules.specs.Margin.{decisionMarginOf}
-use Rattle.rules.specs.declared.records.KernelInput.{KernelInput}
-use Rattle.rules.specs.declared.records.PolicySnapshot.{PolicySnapshot}
+use Rattle.rules.proofs.Kit.{ℕ, List}
+use Rattle.rules.specs.{Numbers.toldBoundaries, Win.whatWouldWinOf, Margin.decisionMarginOf, declared.records.KernelInput.KernelInput}
+use Rattle.rules.specs.{declared.records.PolicySnapshot.PolicySnapshot}
 use Rattle.rules.proofs.Told.{Same, one-boundaries}
 
 module _ (p : PolicySnapshot) (q : KernelInput) (bank : List ℕ) where

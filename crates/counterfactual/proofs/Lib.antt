@@ -1,6 +1,4 @@
--- The laws of room for levers and of the two answers, which the code's proofs cite.
-pub mod Rooms
-pub mod Notes
+-- The laws of the two answers, which the code's proofs cite.
 pub mod Listed
 pub mod Wins
 pub mod Margins

@@ -1,25 +1,12 @@
 -- The margin, case by case. Assumes nothing.
-use Prim.Native.Nat.{ℕ, _<_}
-use native.Mathlib.Nat.{eq-zero-or-pos}
-use mathlib.Core.Path.{_≡_, sym, ap, _∙_}
-use mathlib.Core.Bool.{true, false, false≢true}
-use mathlib.Core.Logic.{_⊎_, inl, inr}
-use mathlib.Core.List.{List}
-use mathlib.Core.Option.{none, some}
-use Rattle.rules.specs.Records.{listedOf}
-use Rattle.rules.specs.Refused.{fault}
-use Rattle.rules.specs.Numbers.{Decision, isRejection}
-use Rattle.rules.specs.Listing.{firstListed, placeOf}
-use Rattle.rules.specs.Decide.{stoppedBy, rejection, decisionOf}
-use Rattle.rules.specs.Levers.{boundaryOf, boundaryRefused}
-use Rattle.rules.specs.Margin.{marginLevers, marginIfListed, marginFor, marginIn}
-use Rattle.rules.specs.declared.records.KernelInput.{KernelInput}
-use Rattle.rules.specs.declared.records.PolicySnapshot.{PolicySnapshot}
-use Rattle.rules.proofs.Choices.{below-yes}
-use Rattle.ranking.specs.declared.state.Top.{Top}
-use Rattle.outset.proofs.Finding.{found-at, found-nothing}
-use Rattle.searches.specs.Asked.{askedOf, questionOf}
-use Rattle.searches.specs.declared.pass.Asked.{Asked}
+use Rattle.rules.proofs.Kit.{ℕ, _≡_, sym, ap, _∙_, true, false, List, none, some}
+use Rattle.rules.specs.{Records.listedOf, Refused.fault, Numbers.Decision, Numbers.isRejection, Listing.firstListed, Listing.placeOf, Decide.stoppedBy}
+use Rattle.rules.specs.{Decide.decisionOf, Levers.boundaryOf, Levers.boundaryRefused, Margin.marginLevers, Margin.marginIfListed, Margin.marginFor}
+use Rattle.rules.specs.{Margin.marginIn, declared.records.KernelInput.KernelInput, declared.records.PolicySnapshot.PolicySnapshot}
+use Rattle.rules.proofs.Stopped.{not-stopped}
+use Rattle.kernel_ranking.specs.declared.state.Top.{Top}
+use Rattle.call_checks.proofs.Finding.{found-at, found-nothing}
+use Rattle.counterfactual_search.specs.{Asked.askedFrom, Asked.questionIn, declared.pass.Asked.Asked}
 
 module _ (p : PolicySnapshot) (q : KernelInput) (bank : List ℕ) {d : Decision} (decided : d ≡ decisionOf p q (listedOf bank)) where
   -- A REJECTION HAS NO MARGIN
@@ -31,23 +18,17 @@ module _ (p : PolicySnapshot) (q : KernelInput) (bank : List ℕ) {d : Decision}
   unfolding marginIn marginFor
   chosen r = rw (sym decided, r)
 
-  pub margin-nowhere : isRejection d ≡ false → placeOf (firstListed (d .model) (listedOf bank)) ≡ none → marginIn p q (listedOf bank) ≡ boundaryRefused (fault 6)
+  pub margin-nowhere : isRejection d ≡ false → placeOf (firstListed (d .model) (listedOf bank)) ≡ none
+      → marginIn p q (listedOf bank) ≡ boundaryRefused (fault 6)
   margin-nowhere r e = chosen r ∙ ap (marginIfListed p q (listedOf bank) d) (found-nothing bank (d .model) e)
 
   -- A CHOSEN ID'S FIRST LISTED RECORD IS VARIED
-  pub margin-listed : {k : Asked} (place : ℕ) (top : Top) → isRejection d ≡ false → k ≡ askedOf p q bank (d .model) place top
+  pub margin-listed : {k : Asked} (place : ℕ) (top : Top) → isRejection d ≡ false → k ≡ askedFrom p q bank (d .model) place top
       → placeOf (firstListed (d .model) (listedOf bank)) ≡ some place
-      → marginIn p q (listedOf bank) ≡ boundaryOf (d .model) d false (marginLevers (questionOf k bank))
-  unfolding questionOf
+      → marginIn p q (listedOf bank) ≡ boundaryOf (d .model) d false (marginLevers (questionIn k bank))
+  unfolding questionIn
   margin-listed place top r e f = rw e (chosen r ∙ ap (marginIfListed p q (listedOf bank) d) (found-at bank (d .model) place f .0))
 
   -- WHAT IS NO REJECTION WAS NOT STOPPED
   pub chosen-free : isRejection d ≡ false → stoppedBy p q ≡ 0
-  unfolding decisionOf rejection
-  chosen-free r = go (eq-zero-or-pos (stoppedBy p q))
-    where
-      go : (stoppedBy p q ≡ 0) ⊎ (0 < stoppedBy p q) → stoppedBy p q ≡ 0
-      go (inl z) = z
-      go (inr h) =
-          let e : isRejection d ≡ true = ap isRejection (decided ∙ below-yes 0 (stoppedBy p q) _ _ h) in
-          absurd (false≢true (sym r ∙ e))
+  chosen-free r = not-stopped p q (listedOf bank) (ap isRejection (sym decided) ∙ r)

@@ -1,32 +1,15 @@
 -- What would win, case by case. Assumes nothing.
-use Prim.Native.Nat.{ℕ}
-use native.Mathlib.Omega.{arith}
-use mathlib.Core.Path.{_≡_, sym, ap, ap₂, _∙_}
-use mathlib.Core.Bool.{Bool, true, false}
-use mathlib.Core.List.{List}
-use mathlib.Core.Option.{none, some}
-use borrow.Author.Tests.{eq-eqb, ne-eqb}
-use Rattle.rules.specs.Choice.{below}
-use Rattle.rules.specs.Records.{listedOf, modelAt}
-use Rattle.rules.specs.Refused.{fault}
-use Rattle.rules.specs.Numbers.{Decision, Entry, reasonNo}
-use Rattle.rules.specs.Listing.{firstListed, placeOf}
-use Rattle.rules.specs.Decide.{stoppedBy, decisionOf}
-use Rattle.rules.specs.Levers.{Question, wins, selects, entry, noSearch, boundaryOf, boundaryRefused}
-use Rattle.rules.specs.Win.{winLevers, ifOn, winSearch, winFor, winIn, winIfListed}
-use Rattle.rules.specs.declared.records.KernelInput.{KernelInput}
-use Rattle.rules.specs.declared.records.PolicySnapshot.{PolicySnapshot}
-use Rattle.rules.specs.declared.decision.KernelReason.{KernelReason}
-use Rattle.rules.proofs.Reasons.{reason-some}
-use Rattle.ranking.specs.declared.state.Top.{Top}
-use Rattle.deciding.specs.Stop.{toldStop}
-use Rattle.deciding.specs.declared.stop.Stop.{Stop}
-use Rattle.deciding.specs.declared.stop.Stop.the-variants.{Open, By}
-use Rattle.outset.proofs.Finding.{found-at, found-nothing}
-use Rattle.others.proofs.Opening.{open-free}
-use Rattle.searches.specs.Asked.{askedOf, questionOf}
-use Rattle.searches.specs.declared.pass.Asked.{Asked}
-use Rattle.counterfactual.specs.Levers.{Room, emptyRoom, pushed, roomOf}
+use Rattle.rules.proofs.Kit.{ℕ, arith, _≡_, ap, ap₂, _∙_, Bool, true, false, List, none, some, eq-eqb, ne-eqb}
+use Rattle.rules.specs.{Choice.below, Records.listedOf, Records.modelAt, Refused.fault, Numbers.Decision, Numbers.Entry, Listing.firstListed, Listing.placeOf}
+use Rattle.rules.specs.{Decide.stoppedBy, Decide.decisionOf, Levers.Question, Levers.wins, Levers.selects, Levers.entry, Levers.noSearch, Levers.boundaryOf}
+use Rattle.rules.specs.{Levers.boundaryRefused, Win.winLevers, Win.ifOn, Win.winSearch, Win.winFor, Win.winIn, Win.winIfListed}
+use Rattle.rules.specs.{declared.records.KernelInput.KernelInput, declared.records.PolicySnapshot.PolicySnapshot, declared.decision.KernelReason.KernelReason}
+use Rattle.kernel_ranking.specs.declared.state.Top.{Top}
+use Rattle.kernel_decide.specs.{Stop.toldStop, declared.stop.Stop.Stop, declared.stop.Stop.the-variants.Open, declared.stop.Stop.the-variants.By}
+use Rattle.call_checks.proofs.Finding.{found-at, found-nothing}
+use Rattle.kernel_decide.proofs.Stops.{open-free, by-high}
+use Rattle.counterfactual_search.specs.{Asked.askedFrom, Asked.questionIn, declared.pass.Asked.Asked}
+use Rattle.counterfactual_answer.specs.Levers.{LeverRooms, emptyRoom, pushed, roomOf}
 
 -- ---- what is searched
 
@@ -40,11 +23,11 @@ module _ (a : Question) where
   search-off b h e = rw (eq-eqb (a .model .enabled) 0 h, e)
 
 -- switched on, it wins: the one lever, at the second pass; or it doesn't
-pub off-found : {t u : Room} {e : Entry} → t ≡ emptyRoom 2 → e ≡ entry 5 0 1 none → u ≡ pushed t e → u ≡ roomOf (ifOn true)
+pub off-found : {t u : LeverRooms} {e : Entry} → t ≡ emptyRoom 2 → e ≡ entry 5 0 1 none → u ≡ pushed t e → u ≡ roomOf (ifOn true)
 unfolding roomOf pushed below
 off-found p q r = r ∙ ap₂ pushed p q
 
-pub off-lost : {t : Room} → t ≡ emptyRoom 2 → t ≡ roomOf (ifOn false)
+pub off-lost : {t : LeverRooms} → t ≡ emptyRoom 2 → t ≡ roomOf (ifOn false)
 unfolding roomOf
 off-lost p = p
 
@@ -52,10 +35,8 @@ off-lost p = p
 
 module _ (a : Question) (d : Decision) {s : Stop} (told : toldStop s ≡ stoppedBy (a .policy) (a .request)) where
   pub win-stopped : {r : KernelReason} → s ≡ By r → winFor a d ≡ boundaryOf (a .id) d true noSearch
-  unfolding winFor toldStop
-  win-stopped {r} e =
-      let n : stoppedBy (a .policy) (a .request) ≡ reasonNo r = sym told ∙ ap toldStop e in
-      rw (ne-eqb (stoppedBy (a .policy) (a .request)) 0 (λ z. let h = reason-some r in omega arith))
+  unfolding winFor
+  win-stopped e = let h = by-high (a .policy) (a .request) told e in rw (ne-eqb (stoppedBy (a .policy) (a .request)) 0 (λ z. omega arith))
 
   pub win-selected : s ≡ Open → selects (a .id) d ≡ true → winFor a d ≡ boundaryOf (a .id) d false noSearch
   unfolding winFor
@@ -82,7 +63,7 @@ module _ (p : PolicySnapshot) (q : KernelInput) (bank : List ℕ) (id : ℕ) whe
   win-listed place f = ap (winIfListed p q (listedOf bank) id) (found-at bank id place f .0)
 
   -- what is sought for what is asked there
-  pub sought-at : {k : Asked} {t : Room} (place : ℕ) (top : Top) → k ≡ askedOf p q bank id place top
-      → t ≡ roomOf (winSearch (questionOf k bank)) → t ≡ roomOf (winSearch (asking place))
-  unfolding questionOf
-  sought-at place top e f = f ∙ ap (λ (k : Asked). roomOf (winSearch (questionOf k bank))) e
+  pub sought-at : {k : Asked} {t : LeverRooms} (place : ℕ) (top : Top) → k ≡ askedFrom p q bank id place top
+      → t ≡ roomOf (winSearch (questionIn k bank)) → t ≡ roomOf (winSearch (asking place))
+  unfolding questionIn
+  sought-at place top e f = f ∙ ap (λ (k : Asked). roomOf (winSearch (questionIn k bank))) e

@@ -1,7 +1,5 @@
 // What would have to change for a decision to come out differently: the Rust's counterfactual.rs. The two calls passed on here ask nothing
-// of their caller; `answer` is for other crates.
-pub mod answer;
-mod levers;
+// of their caller.
 mod margin;
 mod win;
 

@@ -6,21 +6,25 @@ ghost use Rattle.rules.specs.Records.{listedOf};
 ghost use Rattle.rules.specs.Refused.{bankFaults};
 ghost use Rattle.rules.specs.Listing.{firstListed, placeOf};
 ghost use Rattle.rules.specs.Numbers.{toldBoundaries};
-ghost use Rattle.rules.specs.Win.{winLevers, winSearch, winIn, whatWouldWinOf};
-ghost use Rattle.searches.specs.Asked.{questionOf, Stands};
-ghost use Rattle.counterfactual.specs.Levers.{toldLevers, roomOf};
-use crate::answer::answered;
-use crate::answer::refused;
-use crate::levers::four_levers;
-use crate::levers::no_levers;
-use crate::levers::plain;
-use crate::levers::price_cost;
-use crate::levers::push;
-use deciding::stop::Stop;
-use deciding::stop::stopped_by;
-use others::open::opened;
-use outset::listing::first_listed;
-use outset::refuse::bank_outcome;
+ghost use Rattle.rules.specs.Win.{winSearch, winIn, whatWouldWinOf};
+ghost use Rattle.counterfactual_search.specs.Asked.{questionIn, Stands};
+ghost use Rattle.counterfactual_answer.specs.Levers.{toldLevers, roomOf};
+use call_checks::listing::first_listed;
+use call_checks::refuse::bank_outcome;
+use counterfactual_answer::answer::answered;
+use counterfactual_answer::answer::refused;
+use counterfactual_answer::levers::no_levers;
+use counterfactual_answer::levers::plain;
+use counterfactual_answer::levers::push;
+use counterfactual_four_levers::win::win_levers;
+use counterfactual_lever::ENABLED;
+use counterfactual_others::open::opened;
+use counterfactual_search::pass::Asked;
+use counterfactual_search::pass::asked_at;
+use counterfactual_search::pass::selected;
+use counterfactual_search::pass::wins_at;
+use kernel_decide::stop::Stop;
+use kernel_decide::stop::stopped_by;
 use rules::Boundaries;
 use rules::Found;
 use rules::KernelInput;
@@ -28,48 +32,11 @@ use rules::Levers;
 use rules::Outcome;
 use rules::PolicySnapshot;
 use rules::Refusal;
-use rules::limits::MAX_BPS;
-use rules::limits::PPM;
-use searches::held::held_of;
-use searches::held::model_held;
-use searches::held::request_held;
-use searches::lever::ENABLED;
-use searches::lever::P95_LATENCY_MS;
-use searches::lever::PRICE_SCALE_PPM;
-use searches::lever::QUALITY_BPS;
-use searches::lever::RISK_CEILING_BPS;
-use searches::pass::Asked;
-use searches::pass::asked_at;
-use searches::pass::selected;
-use searches::pass::wins_at;
-use searches::search::highest_true;
-use searches::search::lowest_true;
-
-// Four levers, each searched from today's value to its favourable end.
-fn win_levers(asked: Asked, bank: &[u8]) -> Levers
-    requires { ⌜ Stands asked (now bank) ⌝ }
-    ensures { λ r. ⌜ toldLevers r ≡ roomOf (winLevers (questionOf asked (now (bank .entry)))) ⌝ }
-{
-    let model = asked.model;
-    let most = MAX_BPS as u64;
-    let quality = model.quality_bps as u64;
-    let latency = model.p95_latency_ms as u64;
-    let ceiling = model.risk_ceiling_bps as u64;
-    let request = request_held(asked.input);
-    let varied = model_held(model);
-    let held = held_of(asked);
-    let by_quality = lowest_true(&request, &varied, &held, QUALITY_BPS, quality, most);
-    let by_latency = highest_true(&request, &varied, &held, P95_LATENCY_MS, 0, latency);
-    let by_price = highest_true(&request, &varied, &held, PRICE_SCALE_PPM, 0, PPM);
-    let by_ceiling = lowest_true(&request, &varied, &held, RISK_CEILING_BPS, ceiling, most);
-    let cost = price_cost(asked, bank, by_price);
-    four_levers(model, by_quality, by_latency, by_price, cost, by_ceiling)
-}
 
 // A model that is off is only switched on, at the second pass: no other lever makes it win.
 fn win_search(asked: Asked, bank: &[u8]) -> Levers
     requires { ⌜ Stands asked (now bank) ⌝ }
-    ensures { λ r. ⌜ toldLevers r ≡ roomOf (winSearch (questionOf asked (now (bank .entry)))) ⌝ }
+    ensures { λ r. ⌜ toldLevers r ≡ roomOf (winSearch (questionIn asked (now (bank .entry)))) ⌝ }
 {
     let model = asked.model;
     if model.enabled != 0 {

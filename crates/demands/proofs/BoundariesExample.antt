@@ -1,40 +1,20 @@
 -- Demand 3 at document 01's example: the theorems' hypotheses are met, and what they say of rows (B) and (C). Assumes nothing.
-use Prim.Native.Nat.{ℕ, _≤_}
-use mathlib.Core.Path.{_≡_, refl, sym, ap, subst, _∙_}
-use mathlib.Core.Bool.{true, false}
-use mathlib.Core.List.{List, [], _∷_}
-use mathlib.Core.Logic.{_↔_}
-use mathlib.Core.Option.{some, none, Option·some-injective}
-use native.Mathlib.Omega.{arith}
-use Rattle.rules.specs.Choice.{below, atLeast, equal, lower, higher}
-use Rattle.rules.specs.Bytes.{number}
-use Rattle.rules.specs.Records.{Listed, listed, modelOf, modelAt, inputOf, policyOf, listedOf}
-use Rattle.rules.specs.Refused.{lengthFaults, bankFaults}
-use Rattle.rules.specs.Numbers.{isRejection, Boundary}
-use Rattle.rules.specs.Gates.{gateOf}
-use Rattle.rules.specs.Price.{billed, costOf, scaledPrice}
-use Rattle.rules.specs.Utility.{shareOf, qualityTermOf, riskTermOf, latencyTermOf, exactUtilityOf, utilityOf}
-use Rattle.rules.specs.Verdict.{pricedOf, verdictOf}
-use Rattle.rules.specs.Rank.{better, ranking}
-use Rattle.rules.specs.Decide.{stoppedBy, executedAs, chosen, decidedOf, decisionOf}
-use Rattle.rules.specs.Listing.{firstListed}
-use Rattle.rules.specs.Halving.{halveIn, searchOf, searchAfterFarEnd}
-use Rattle.rules.specs.Levers.{Question, leverAt, selects, varied, decisionAt, wins, boundaryOf}
-use Rattle.rules.specs.Win.{winLevers, winSearch, winFor, winIn, whatWouldWinOf}
-use Rattle.rules.specs.Margin.{marginLevers, marginFor, marginIn, decisionMarginOf}
-use Rattle.rules.specs.declared.records.KernelInput.{KernelInput}
-use Rattle.rules.specs.declared.records.PolicySnapshot.{PolicySnapshot}
-use Rattle.rules.proofs.Example.{bank, policy, request, choice, lever, noLever, boundary}
-use Rattle.demands.specs.Standing.{UniqueIds}
-use Rattle.demands.specs.Demand3.{question, qualityEntry, latencyEntry, priceEntry, ceilingEntry, ofLever, entriesFor, Unselected, SwitchedOn, winPasses, marginPasses, WinExact, MarginExact}
-use Rattle.demands.proofs.Winning.{what-would-win-exact}
-use Rattle.demands.proofs.Margins.{decision-margin-exact}
-use Rattle.demands.proofs.Passes.{searched-passes, kept-passes}
+use Rattle.rules.proofs.Kit.{ℕ, _≤_, _≡_, refl, sym, ap, subst, _∙_, true, false, List, [], _∷_, _↔_, some, none, Option·some-injective, arith}
+use Rattle.rules.proofs.{Opened.rules, Example.bank, Example.policy, Example.request, Example.choice, Example.lever, Example.noLever, Example.boundary}
+use Rattle.rules.specs.{Choice.below, Choice.atLeast, Choice.equal, Bytes.number, Records.Listed, Records.listed, Records.modelOf, Records.modelAt}
+use Rattle.rules.specs.{Records.inputOf, Records.policyOf, Records.listedOf, Refused.lengthFaults, Refused.bankFaults, Numbers.isRejection, Numbers.Boundary}
+use Rattle.rules.specs.{Decide.stoppedBy, Decide.decisionOf, Listing.firstListed, Levers.Question, Levers.selects, Levers.varied, Levers.decisionAt}
+use Rattle.rules.specs.{Levers.wins, Win.whatWouldWinOf, Margin.decisionMarginOf, declared.records.KernelInput.KernelInput}
+use Rattle.rules.specs.{declared.records.PolicySnapshot.PolicySnapshot}
+use Rattle.demands.specs.{Standing.UniqueIds, Demand3.question, Demand3.priceEntry, Demand3.ofLever, Demand3.entriesFor, Demand3.Unselected}
+use Rattle.demands.specs.{Demand3.SwitchedOn, Demand3.winPasses, Demand3.marginPasses, Demand3.WinExact, Demand3.MarginExact}
+use Rattle.demands.proofs.{Winning.what-would-win-exact, Margins.decision-margin-exact, Passes.searched-passes, Passes.kept-passes}
 
-abbrev p : PolicySnapshot
+-- document 01's policy and request
+abbrev pub p : PolicySnapshot
 p = policyOf policy
 
-abbrev q : KernelInput
+abbrev pub q : KernelInput
 q = inputOf request
 
 abbrev ls : List Listed
@@ -50,25 +30,21 @@ unique : UniqueIds ls
 unfolding listedOf modelOf number
 unique = (((λ e. omega arith), tt), (tt, tt))
 
-goes-on : stoppedBy p q ≡ 0
+pub goes-on : stoppedBy p q ≡ 0
 unfolding stoppedBy atLeast below number inputOf policyOf
 goes-on = refl
-
-first-is-one : firstListed 1 ls ≡ some (listed 0 (modelAt bank 0))
-unfolding firstListed equal listedOf modelOf number
-first-is-one = refl
 
 is-on : SwitchedOn (modelAt bank 0)
 unfolding modelOf number
 is-on e = omega arith
 
 pub decides-two : decisionOf p q ls ≡ choice
-unfolding below atLeast equal lower higher number modelOf inputOf policyOf listedOf gateOf billed costOf shareOf qualityTermOf riskTermOf latencyTermOf exactUtilityOf utilityOf pricedOf verdictOf better ranking stoppedBy executedAs chosen decidedOf decisionOf
+unfolding rules
 decides-two = refl
 
 one-unselected : Unselected p q ls 1 (listed 0 (modelAt bank 0))
-unfolding selects
-one-unselected = record { listed = first-is-one; goesOn = goes-on; notSelected = rw decides-two }
+unfolding selects firstListed equal listedOf modelOf number
+one-unselected = record { listed = refl; goesOn = goes-on; notSelected = rw decides-two }
 
 -- ---- (B) what would win for model 1
 
@@ -79,12 +55,12 @@ exact-B : WinExact (whatWouldWinOf p q bank 1) one
 exact-B = what-would-win-exact p q bank 1 (listed 0 (modelAt bank 0)) no-fault unique one-unselected is-on
 
 row-B : whatWouldWinOf p q bank 1 ≡ boundary 1 choice false (lever 3 1000000 443333 (some 798) ∷ noLever ∷ noLever ∷ noLever ∷ []) 1 26
-unfolding below atLeast equal lower higher number modelOf inputOf policyOf listedOf lengthFaults gateOf billed costOf scaledPrice shareOf qualityTermOf riskTermOf latencyTermOf exactUtilityOf utilityOf pricedOf verdictOf better ranking stoppedBy executedAs chosen decidedOf decisionOf firstListed halveIn searchOf leverAt selects varied decisionAt wins boundaryOf winLevers winSearch winFor winIn whatWouldWinOf
+unfolding rules
 row-B = refl
 
 -- the cost that the price's entry carries is the decision's there
 cost-there : decisionAt one 3 443333 .cost ≡ 798
-unfolding below atLeast equal lower higher number modelOf inputOf policyOf listedOf gateOf billed costOf scaledPrice shareOf qualityTermOf riskTermOf latencyTermOf exactUtilityOf utilityOf pricedOf verdictOf better ranking stoppedBy executedAs chosen decidedOf decisionOf leverAt varied decisionAt
+unfolding rules
 cost-there = refl
 
 price-given : entriesFor 3 (whatWouldWinOf p q bank 1) ≡ priceEntry one 443333 ∷ []
@@ -125,8 +101,9 @@ first-is-two = refl
 abbrev two : Question
 two = question p q ls 2 (modelAt bank 1)
 
-row-C : decisionMarginOf p q bank ≡ boundary 2 choice false (lever 1 8000 7000 none ∷ lever 2 50 150 none ∷ lever 3 1000000 4330000 (some 1299) ∷ lever 4 8000 1000 none ∷ []) 4 95
-unfolding below atLeast equal lower higher number modelOf inputOf policyOf listedOf lengthFaults gateOf billed costOf scaledPrice shareOf qualityTermOf riskTermOf latencyTermOf exactUtilityOf utilityOf pricedOf verdictOf better ranking stoppedBy executedAs chosen decidedOf decisionOf firstListed halveIn searchOf searchAfterFarEnd leverAt selects varied decisionAt wins boundaryOf marginLevers marginFor marginIn decisionMarginOf
+row-C : decisionMarginOf p q bank
+    ≡ boundary 2 choice false (lever 1 8000 7000 none ∷ lever 2 50 150 none ∷ lever 3 1000000 4330000 (some 1299) ∷ lever 4 8000 1000 none ∷ []) 4 95
+unfolding rules
 row-C = refl
 
 -- the record that is varied is the one at place 1
@@ -140,20 +117,8 @@ exact-C =
     subst (λ id. MarginExact (decisionMarginOf p q bank) (question p q ls id (modelAt bank 1))) chosen-is-two
     (subst (λ l. MarginExact (decisionMarginOf p q bank) (question p q ls (decisionOf p q ls .model) (l .model))) same (c .exact))
 
-quality-given : entriesFor 1 (decisionMarginOf p q bank) ≡ qualityEntry two 7000 ∷ []
-unfolding ofLever equal modelOf number
-quality-given = ap (entriesFor 1) row-C
-
-latency-given : entriesFor 2 (decisionMarginOf p q bank) ≡ latencyEntry two 150 ∷ []
-unfolding ofLever equal modelOf number
-latency-given = ap (entriesFor 2) row-C
-
-ceiling-given : entriesFor 4 (decisionMarginOf p q bank) ≡ ceilingEntry two 1000 ∷ []
-unfolding ofLever equal modelOf number
-ceiling-given = ap (entriesFor 4) row-C
-
 scaled-cost : decisionAt two 3 4330000 .cost ≡ 1299
-unfolding below atLeast equal lower higher number modelOf inputOf policyOf listedOf gateOf billed costOf scaledPrice shareOf qualityTermOf riskTermOf latencyTermOf exactUtilityOf utilityOf pricedOf verdictOf better ranking stoppedBy executedAs chosen decidedOf decisionOf leverAt varied decisionAt
+unfolding rules
 scaled-cost = refl
 
 scale-given : entriesFor 3 (decisionMarginOf p q bank) ≡ priceEntry two 4330000 ∷ []
@@ -162,13 +127,13 @@ scale-given = rw scaled-cost (ap (entriesFor 3) row-C)
 
 -- Model 2 stays chosen at the qualities from 7,000 to 8,000 and at no lower one
 two-by-quality : (v : ℕ) → v ≤ 8000 → (wins two 1 v ≡ true) ↔ (7000 ≤ v)
-unfolding modelOf number
-two-by-quality v h = exact-C .quality .exact 7000 quality-given .exactly v ((omega arith), h)
+unfolding ofLever equal modelOf number
+two-by-quality v h = exact-C .quality .exact 7000 (ap (entriesFor 1) row-C) .exactly v ((omega arith), h)
 
 -- at the latencies from 50 to 150 ms and at no higher one
 two-by-latency : (v : ℕ) → 50 ≤ v → v ≤ 4294967295 → (wins two 2 v ≡ true) ↔ (v ≤ 150)
-unfolding modelOf number
-two-by-latency v h k = exact-C .latency .exact 150 latency-given .exactly v (h, k)
+unfolding ofLever equal modelOf number
+two-by-latency v h k = exact-C .latency .exact 150 (ap (entriesFor 2) row-C) .exactly v (h, k)
 
 -- at the price scales from 1,000,000 to 4,330,000 and at no higher one
 two-by-price : (v : ℕ) → 1000000 ≤ v → v ≤ 1000000000 → (wins two 3 v ≡ true) ↔ (v ≤ 4330000)
@@ -176,8 +141,8 @@ two-by-price v h k = exact-C .price .exact 4330000 scale-given .exactly v (h, k)
 
 -- and at the ceilings from 1,000 to 8,000 and at no lower one
 two-by-ceiling : (v : ℕ) → v ≤ 8000 → (wins two 4 v ≡ true) ↔ (1000 ≤ v)
-unfolding modelOf number
-two-by-ceiling v h = exact-C .ceiling .exact 1000 ceiling-given .exactly v ((omega arith), h)
+unfolding ofLever equal modelOf number
+two-by-ceiling v h = exact-C .ceiling .exact 1000 (ap (entriesFor 4) row-C) .exactly v ((omega arith), h)
 
 -- and the margin's 95 passes are the halvings' own
 passes-C : marginPasses two ≡ 95

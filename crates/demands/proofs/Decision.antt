@@ -1,30 +1,16 @@
 -- The decision's two are the first two of the ranking, and of a bank they beat all others. Assumes nothing.
-use Prim.Native.Nat.{ℕ}
-use mathlib.Core.Path.{_≡_, refl, _∙_}
-use mathlib.Core.Logic.{_⊎_}
-use mathlib.Core.List.{List, [], _∷_}
-use native.Mathlib.Omega.{arith}
-use lib.ListN.{length}
-use Rattle.rules.specs.Records.{Listed}
-use Rattle.rules.specs.Verdict.{judged}
-use Rattle.rules.specs.Rank.{Candidate, eligibles, ranking}
-use Rattle.rules.specs.Count.{countsOf, dominantOf}
-use Rattle.rules.specs.Decide.{stoppedBy, rejection, chosen, decidedOf, decisionOf}
-use Rattle.rules.specs.declared.records.KernelInput.{KernelInput}
-use Rattle.rules.specs.declared.records.PolicySnapshot.{PolicySnapshot}
-use Rattle.rules.proofs.Choices.{below-no}
-use Rattle.demands.specs.Lists.{Each}
+use Rattle.rules.proofs.Kit.{ℕ, _≡_, refl, _∙_, _⊎_, List, [], _∷_, length}
+use Rattle.rules.specs.{Order.Each, Records.Listed, Verdict.judged, Rank.Candidate, Rank.eligibles, Rank.ranking, Count.countsOf, Count.dominantOf}
+use Rattle.rules.specs.{Decide.stoppedBy, Decide.rejection, Decide.chosen, Decide.byVerdicts, Decide.decisionOf, declared.records.KernelInput.KernelInput}
+use Rattle.rules.specs.{declared.records.PolicySnapshot.PolicySnapshot}
+use Rattle.rules.proofs.Stopped.{unstopped}
 use Rattle.demands.specs.Ranked.{Beats, judgedOf, DecidedFor}
 use Rattle.demands.proofs.Places.{judged-different, first-beats-all, second-beats-others}
 
 module _ (p : PolicySnapshot) (q : KernelInput) (ls : List Listed) (goesOn : stoppedBy p q ≡ 0) where
-  decided : decisionOf p q ls ≡ decidedOf p q (judged p q ls)
-  unfolding decisionOf
-  decided = below-no 0 (stoppedBy p q) (rejection p q (stoppedBy p q) 0) (decidedOf p q (judged p q ls)) (omega arith)
-
   pub chosen-is : (c : Candidate) (rest : List Candidate) → ranking (judged p q ls) ≡ c ∷ rest → decisionOf p q ls ≡ chosen p q (length (judged p q ls)) c rest
-  unfolding decidedOf
-  chosen-is c rest e = decided ∙ rw e
+  unfolding byVerdicts
+  chosen-is c rest e = unstopped p q ls goesOn ∙ rw e
 
   -- Demand 2. A request that no limit stops is decided for the first of the ranking, at its place, cost and utility; the counterfactual
   -- is the second, with its utility, 0 and 0 if there is none
@@ -32,18 +18,20 @@ module _ (p : PolicySnapshot) (q : KernelInput) (ls : List Listed) (goesOn : sto
   unfolding chosen
   decided-by-first-two c rest e =
       rw (chosen-is c rest e)
-      (record { model = refl; place = refl; cost = refl; utility = refl; other = refl; otherUtility = refl })
+      (record { model = refl; place = refl; cost = refl; utility = refl; counterfactual = refl; counterfactualUtility = refl })
 
   -- Demand 2. Where the ranking is empty it is rejected, with the reason of the largest count
   pub rejected-where-none : ranking (judged p q ls) ≡ [] → decisionOf p q ls ≡ rejection p q (dominantOf (countsOf (judged p q ls))) (length (judged p q ls))
-  unfolding decidedOf
-  rejected-where-none e = decided ∙ rw e
+  unfolding byVerdicts
+  rejected-where-none e = unstopped p q ls goesOn ∙ rw e
 
 module _ (p : PolicySnapshot) (q : KernelInput) (bank : List ℕ) where
   -- Demand 2. Of a bank, the chosen model is better than every other eligible one
-  pub chosen-beats-all : (c : Candidate) (rest : List Candidate) → ranking (judgedOf p q bank) ≡ c ∷ rest → Each (λ x. (x ≡ c) ⊎ Beats c x) (eligibles (judgedOf p q bank))
+  pub chosen-beats-all : (c : Candidate) (rest : List Candidate) → ranking (judgedOf p q bank) ≡ c ∷ rest
+      → Each (λ x. (x ≡ c) ⊎ Beats c x) (eligibles (judgedOf p q bank))
   chosen-beats-all = first-beats-all (judgedOf p q bank) (judged-different p q bank)
 
   -- Demand 2. Of a bank, the counterfactual is better than every eligible one but itself and the chosen one
-  pub counterfactual-beats-others : (c d : Candidate) (rest : List Candidate) → ranking (judgedOf p q bank) ≡ c ∷ d ∷ rest → Each (λ x. (x ≡ c) ⊎ (x ≡ d) ⊎ Beats d x) (eligibles (judgedOf p q bank))
+  pub counterfactual-beats-others : (c d : Candidate) (rest : List Candidate) → ranking (judgedOf p q bank) ≡ c ∷ d ∷ rest
+      → Each (λ x. (x ≡ c) ⊎ (x ≡ d) ⊎ Beats d x) (eligibles (judgedOf p q bank))
   counterfactual-beats-others = second-beats-others (judgedOf p q bank) (judged-different p q bank)

@@ -1,17 +1,8 @@
 -- The dominant reason: no count is above its own, and none after it equals it. Assumes nothing.
-use Prim.Native.Nat.{_≤_, _<_}
-use mathlib.Core.Path.{_≡_, refl, ap, subst}
-use mathlib.Core.Bool.{Bool, true, false, cond}
-use mathlib.Core.List.{List, [], _∷_, _++_, foldl}
-use native.Mathlib.Omega.{arith}
-use native.Mathlib.Nat.{le-refl}
-use borrow.Author.Tests.{ltb-true, ltb-false}
-use lib.Dec.{ltb}
-use Rattle.rules.specs.Choice.{below}
-use Rattle.rules.specs.Count.{Weight, weight, weights, heavier, dominantOf}
-use Rattle.rules.specs.declared.decision.RejectionHistogram.{RejectionHistogram}
+use Rattle.rules.proofs.Kit.{_≤_, _<_, _≡_, refl, ap, subst, Bool, true, false, cond, List, [], _∷_, _++_, foldl, arith, le-refl, ltb-true, ltb-false, ltb}
+use Rattle.rules.specs.{Choice.below, Order.Each, Count.Weight, Count.weight, Count.weights, Count.heavier, Count.dominantOf}
+use Rattle.rules.specs.{declared.decision.RejectionHistogram.RejectionHistogram}
 use Rattle.rules.proofs.Choices.{below-no}
-use Rattle.demands.specs.Lists.{Each}
 use Rattle.demands.specs.Ranked.{LastLargest}
 
 -- a smaller one after the first leaves the last of the largest
@@ -34,7 +25,8 @@ unfolding heavier below
 first-at-most w [] = le-refl (w .count)
 first-at-most w (x ∷ xs) = go (ltb (x .count) (w .count)) refl (first-at-most w xs) (first-at-most x xs)
   where
-    go : (t : Bool) → ltb (x .count) (w .count) ≡ t → w .count ≤ foldl heavier w xs .count → x .count ≤ foldl heavier x xs .count → w .count ≤ foldl heavier (cond t w x) xs .count
+    go : (t : Bool) → ltb (x .count) (w .count) ≡ t → w .count ≤ foldl heavier w xs .count → x .count ≤ foldl heavier x xs .count
+        → w .count ≤ foldl heavier (cond t w x) xs .count
     go true e a b = a
     go false e a b = omega (arith, ltb-false (x .count) (w .count) e)
 
@@ -44,10 +36,20 @@ unfolding heavier below
 heaviest-last w [] = record { before = []; after = []; whole = refl; noneLarger = tt; allSmaller = tt }
 heaviest-last w (x ∷ xs) = go (ltb (x .count) (w .count)) refl (heaviest-last w xs) (heaviest-last x xs) (first-at-most x xs)
   where
-    go : (t : Bool) → ltb (x .count) (w .count) ≡ t → LastLargest (foldl heavier w xs) (w ∷ xs) → LastLargest (foldl heavier x xs) (x ∷ xs) → x .count ≤ foldl heavier x xs .count → LastLargest (foldl heavier (cond t w x) xs) (w ∷ x ∷ xs)
+    go : (t : Bool) → ltb (x .count) (w .count) ≡ t → LastLargest (foldl heavier w xs) (w ∷ xs) → LastLargest (foldl heavier x xs) (x ∷ xs)
+        → x .count ≤ foldl heavier x xs .count → LastLargest (foldl heavier (cond t w x) xs) (w ∷ x ∷ xs)
     go true e a b h = smaller-second (foldl heavier w xs) w x xs (ltb-true (x .count) (w .count) e) a
     go false e a b h =
-        record { before = w ∷ b .before; after = b .after; whole = ap (λ l. w ∷ l) (b .whole); noneLarger = (omega (arith, ltb-false (x .count) (w .count) e), b .noneLarger); allSmaller = b .allSmaller }
+        record {
+          before = w ∷ b .before;
+          after = b .after;
+          whole = ap (λ l. w ∷ l) (b .whole);
+          noneLarger = (
+            omega (arith, ltb-false (x .count) (w .count) e),
+            b .noneLarger,
+          );
+          allSmaller = b .allSmaller;
+        }
 
 -- the fold's start, a count of 0, yields to whatever stands first
 start-yields : (w : Weight) → heavier (weight 0 102) w ≡ w
@@ -68,4 +70,15 @@ dominant-last-largest c =
 -- Demand 2. Where all nine counts are 0 it is 102
 pub dominant-of-none : (c : RejectionHistogram) → Each (λ w. w .count ≡ 0) (weights c) → dominantOf c ≡ 102
 unfolding dominantOf heavier below
-dominant-of-none c h = rw (h .0, h .1 .0, h .1 .1 .0, h .1 .1 .1 .0, h .1 .1 .1 .1 .0, h .1 .1 .1 .1 .1 .0, h .1 .1 .1 .1 .1 .1 .0, h .1 .1 .1 .1 .1 .1 .1 .0, h .1 .1 .1 .1 .1 .1 .1 .1 .0)
+dominant-of-none c h =
+    rw (
+      h .0,
+      h .1 .0,
+      h .1 .1 .0,
+      h .1 .1 .1 .0,
+      h .1 .1 .1 .1 .0,
+      h .1 .1 .1 .1 .1 .0,
+      h .1 .1 .1 .1 .1 .1 .0,
+      h .1 .1 .1 .1 .1 .1 .1 .0,
+      h .1 .1 .1 .1 .1 .1 .1 .1 .0,
+    )

@@ -1,26 +1,12 @@
 -- When a model is eligible: no gate stops it, it is within the budget, and its utility is positive. A model that is nowhere less favourable
 -- stays so. Assumes nothing.
-use Prim.Native.Nat.{ℕ, suc, _≤_}
-use mathlib.Core.Path.{_≡_, refl}
-use mathlib.Core.Bool.{Bool, true, false, cond, _&&_}
-use mathlib.Core.List.{List, [], _∷_}
-use native.Mathlib.Omega.{arith}
-use borrow.Author.Tests.{le-ltb, ltb-false}
-use lib.Dec.{ltb}
-use lib.IntN.{pos}
-use lib.Signed.{leZ}
-use Rattle.rules.specs.Choice.{below}
-use Rattle.rules.specs.Gates.{firstOf, isOff, isPoor, isSlow, isUnable, isUnknown, isBarred, isElsewhere, isRisky, gateOf, detailOf}
-use Rattle.rules.specs.Price.{costOf}
-use Rattle.rules.specs.Utility.{utilityOf}
-use Rattle.rules.specs.Verdict.{rejected, overBudget, withTerms, pricedOf, verdictOf}
-use Rattle.rules.specs.declared.records.KernelModel.{KernelModel}
-use Rattle.rules.specs.declared.records.KernelInput.{KernelInput}
-use Rattle.rules.specs.declared.records.PolicySnapshot.{PolicySnapshot}
-use Rattle.demands.specs.Lists.{Each}
+use Rattle.rules.proofs.Kit.{ℕ, suc, _≤_, _≡_, refl, Bool, true, false, cond, _&&_, List, [], _∷_, arith, le-ltb, ltb-false, ltb, pos, leZ}
+use Rattle.rules.specs.{Choice.below, Order.Each, Gates.firstOf, Gates.isOff, Gates.isPoor, Gates.isSlow, Gates.isUnable, Gates.isUnknown, Gates.isBarred}
+use Rattle.rules.specs.{Gates.isElsewhere, Gates.isRisky, Gates.gateOf, Gates.detailOf, Price.costOf, Utility.utilityOf, Verdict.rejected, Verdict.overBudget}
+use Rattle.rules.specs.{Verdict.withTerms, Verdict.byUtility, Verdict.verdictOf, declared.records.KernelModel.KernelModel}
+use Rattle.rules.specs.{declared.records.KernelInput.KernelInput, declared.records.PolicySnapshot.PolicySnapshot}
 use Rattle.demands.specs.Standing.{Eligible, Favours}
-use Rattle.demands.proofs.Integers.{positive-up}
-use Rattle.demands.proofs.Terms.{cost-falls, utility-rises}
+use Rattle.demands.proofs.{Integers.positive-up, Terms.cost-falls, Terms.utility-rises}
 
 -- ---- the three conditions
 
@@ -31,10 +17,12 @@ pub record Passes (p : PolicySnapshot) (q : KernelInput) (m : KernelModel) : Typ
 
 module _ (p : PolicySnapshot) (q : KernelInput) (m : KernelModel) where
   pub passes : Eligible p q m → Passes p q m
-  unfolding verdictOf pricedOf below
+  unfolding verdictOf byUtility below
   passes e = go (ltb 0 (gateOf m q)) (ltb (q .«budget_limit_microunits») (costOf m q)) (leZ (utilityOf p m q) (pos 0)) refl refl refl e
     where
-      go : (s t u : Bool) → ltb 0 (gateOf m q) ≡ s → ltb (q .«budget_limit_microunits») (costOf m q) ≡ t → leZ (utilityOf p m q) (pos 0) ≡ u → cond s (rejected (gateOf m q) (detailOf m q (gateOf m q))) (cond t (overBudget (costOf m q) (q .«budget_limit_microunits»)) (withTerms p q m (cond u 3 4))) .verdict ≡ 4 → Passes p q m
+      go : (s t u : Bool) → ltb 0 (gateOf m q) ≡ s → ltb (q .«budget_limit_microunits») (costOf m q) ≡ t → leZ (utilityOf p m q) (pos 0) ≡ u
+          → cond s (rejected (gateOf m q) (detailOf m q (gateOf m q)))
+          (cond t (overBudget (costOf m q) (q .«budget_limit_microunits»)) (withTerms p q m (cond u 3 4))) .kind ≡ 4 → Passes p q m
       go true t u a b c e = absurd (omega arith)
       go false true u a b c e = absurd (omega arith)
       go false false true a b c e = absurd (omega arith)
@@ -47,7 +35,7 @@ module _ (p : PolicySnapshot) (q : KernelInput) (m : KernelModel) where
 
   -- and then the verdict is 4, with the model's own terms
   pub told-terms : Passes p q m → verdictOf p q m ≡ withTerms p q m 4
-  unfolding verdictOf pricedOf below
+  unfolding verdictOf byUtility below
   told-terms h = rw (h .gate, le-ltb (q .«budget_limit_microunits») (costOf m q) (h .budget), h .utility)
 
 -- ---- the gates
@@ -85,8 +73,10 @@ module _ (p : PolicySnapshot) (q : KernelInput) (y x : KernelModel) (f : Favours
       let ceiling = not-below (x .«risk_ceiling_bps») (q .«risk_bps») (y .«risk_ceiling_bps») (q .«risk_bps») (f .ceiling) (omega arith) risky in
       let longest = q .«max_p95_latency_ms» in
       let latency = and-not (ltb 0 longest) _ _ (not-below longest (x .«p95_latency_ms») longest (y .«p95_latency_ms») (omega arith) (f .latency)) slow in
-      none-first 1 (tests y q)
-      (rw (f .enabled) off, (quality, (latency, (rw (f .capabilities) unable, (rw (f .provider) unknown, (rw (f .provider) barred, (rw (f .regions) elsewhere, (ceiling, tt))))))))
+      none-first 1 (tests y q) (
+        rw (f .enabled) off,
+        (quality, (latency, (rw (f .capabilities) unable, (rw (f .provider) unknown, (rw (f .provider) barred, (rw (f .regions) elsewhere, (ceiling, tt))))))),
+      )
 
   -- So it is eligible where the other is
   pub stays-eligible : Passes p q x → Passes p q y

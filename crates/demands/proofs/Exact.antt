@@ -1,14 +1,8 @@
 -- The halving is exact over any test that turns once, for both sides, and few passes are enough. Assumes nothing.
-use Prim.Native.Nat.{ℕ, zero, suc, _+_, _-_, _^_, _≤_, _<_}
-use mathlib.Core.Path.{_≡_, refl, sym, ap, _∙_}
-use mathlib.Core.Bool.{Bool, true, false, false≢true}
-use mathlib.Core.Logic.{_⊎_, inl, inr}
-use native.Mathlib.Decide.{decLt}
-use native.Mathlib.Omega.{arith}
-use Rattle.rules.specs.Halving.{Side, Lowest, Highest, firstTried, middle, keptLow, keptHigh, halve, searchOf, farEnd, laterBy, searchAfterFarEnd, passesOf}
-use Rattle.rules.specs.declared.boundary.Bound.{Bound}
-use Rattle.rules.specs.declared.boundary.Bound.the-variants.{At, Nothing}
-use Rattle.rules.proofs.Halvings.{Truth, is, isnt, truth, halve-end, halve-step, search-empty, search-no, search-yes, few, margin-none, margin-some}
+use Rattle.rules.proofs.Kit.{ℕ, zero, suc, _+_, _-_, _^_, _≤_, _<_, _≡_, refl, sym, ap, _∙_, Bool, true, false, false≢true, _⊎_, inl, inr, decLt, arith}
+use Rattle.rules.specs.Halving.{Side, Lowest, Highest, firstTried, middle, keptLow, keptHigh, halve, searchOf, farEnd, searchAfterFarEnd, passesOf}
+use Rattle.rules.proofs.Halvings.{Truth, is, isnt, truth, kept, halve-end, halve-step, search-empty, search-no, search-yes, few, far-few, margin-none}
+use Rattle.rules.proofs.Halvings.{margin-some}
 use Rattle.demands.specs.Exact.{range, In, AtOrBetter, TurnsOnce, BoundaryAt, SearchExact, FarEndExact}
 
 -- ---- the two sides
@@ -34,60 +28,30 @@ far-in : (s : Side) (low high : ℕ) → low ≤ high → In (range low high) (f
 far-in Lowest low high h = ((omega arith), h)
 far-in Highest low high h = (h, (omega arith))
 
-middle-in : (s : Side) (low high : ℕ) → low < high → In (range low high) (middle s low high)
-middle-in Lowest low high h = omega arith
-middle-in Highest low high h = omega arith
+-- a setting of the range is in the half that is kept, or on the other side of the middle: where the middle wins, more favourable than all that
+-- is kept, and else no more favourable than the middle
+abbrev Out : Side → Bool → ℕ → ℕ → ℕ → Type 0
+Out s true m c v = AtOrBetter s c v
+Out s false m c v = AtOrBetter s v m
 
--- the half that is kept is a part of the range, and narrower
-record Part (s : Side) (b : Bool) (low high : ℕ) : Type 0 where
-  lower : low ≤ keptLow s b low (middle s low high)
-  ordered : keptLow s b low (middle s low high) ≤ keptHigh s b (middle s low high) high
-  upper : keptHigh s b (middle s low high) high ≤ high
-  narrow : keptHigh s b (middle s low high) high - keptLow s b low (middle s low high) < high - low
-
-part : (s : Side) (b : Bool) (low high : ℕ) → low < high → Part s b low high
-part Lowest true low high h = omega arith
-part Lowest false low high h = omega arith
-part Highest true low high h = omega arith
-part Highest false low high h = omega arith
+in-or-out : (s : Side) (b : Bool) (low m high c v : ℕ) → In (range low high) v → In (range (keptLow s b low m) (keptHigh s b m high)) c
+    → Dec (m < v) → Dec (v < m) → In (range (keptLow s b low m) (keptHigh s b m high)) v ⊎ Out s b m c v
+in-or-out Lowest true low m high c v h k (yes l) d = inr (omega arith)
+in-or-out Lowest true low m high c v h k (no l) d = inl (omega arith)
+in-or-out Lowest false low m high c v h k (yes l) d = inl (omega arith)
+in-or-out Lowest false low m high c v h k (no l) d = inr (omega arith)
+in-or-out Highest true low m high c v h k d (yes l) = inr (omega arith)
+in-or-out Highest true low m high c v h k d (no l) = inl (omega arith)
+in-or-out Highest false low m high c v h k d (yes l) = inl (omega arith)
+in-or-out Highest false low m high c v h k d (no l) = inr (omega arith)
 
 -- the end tried first of the half that is kept is known to win: it is the middle, or the range's own
-first-won : (s : Side) (low m high : ℕ) → firstTried s (keptLow s true low m) (keptHigh s true m high) ≡ m
-first-won Lowest low m high = refl
-first-won Highest low m high = refl
-
-first-lost : (s : Side) (low m high : ℕ) → firstTried s (keptLow s false low m) (keptHigh s false m high) ≡ firstTried s low high
-first-lost Lowest low m high = refl
-first-lost Highest low m high = refl
-
--- a setting is in the half that wins, or more favourable than the middle; in the other half, or no more favourable than the middle
-won-or-better : (s : Side) (low m high v : ℕ) → In (range low high) v → In (range (keptLow s true low m) (keptHigh s true m high)) v ⊎ AtOrBetter s m v
-won-or-better Lowest low m high v h = go (decLt m v)
-  where
-    go : Dec (m < v) → In (range low m) v ⊎ (m ≤ v)
-    go (yes l) = inr (omega arith)
-    go (no l) = inl ((omega arith), (omega arith))
-won-or-better Highest low m high v h = go (decLt v m)
-  where
-    go : Dec (v < m) → In (range m high) v ⊎ (v ≤ m)
-    go (yes l) = inr (omega arith)
-    go (no l) = inl ((omega arith), (omega arith))
-
-lost-or-worse : (s : Side) (low m high v : ℕ) → In (range low high) v → In (range (keptLow s false low m) (keptHigh s false m high)) v ⊎ AtOrBetter s v m
-lost-or-worse Lowest low m high v h = go (decLt m v)
-  where
-    go : Dec (m < v) → In (range (m + 1) high) v ⊎ (v ≤ m)
-    go (yes l) = inl ((omega arith), (omega arith))
-    go (no l) = inr (omega arith)
-lost-or-worse Highest low m high v h = go (decLt v m)
-  where
-    go : Dec (v < m) → In (range low (m - 1)) v ⊎ (m ≤ v)
-    go (yes l) = inl ((omega arith), (omega arith))
-    go (no l) = inr (omega arith)
-
-favour-goes-on : (s : Side) (a b c : ℕ) → AtOrBetter s a b → AtOrBetter s b c → AtOrBetter s a c
-favour-goes-on Lowest a b c p q = omega arith
-favour-goes-on Highest a b c p q = omega arith
+first-kept : (s : Side) (p : ℕ → Bool) (b : Bool) (low m high : ℕ) → p m ≡ b → p (firstTried s low high) ≡ true
+    → p (firstTried s (keptLow s b low m) (keptHigh s b m high)) ≡ true
+first-kept Lowest p true low m high q e = q
+first-kept Lowest p false low m high q e = e
+first-kept Highest p true low m high q e = q
+first-kept Highest p false low m high q e = e
 
 -- a range of one setting
 alone : (s : Side) (low high v : ℕ) → high ≤ low → In (range low high) v → v ≡ low
@@ -123,45 +87,34 @@ module _ (s : Side) (p : ℕ → Bool) where
         only = λ v i q. rw (alone s low high v h i) (at-itself s low);
       })
 
-  won-exact : (low high : ℕ) → low < high → p (middle s low high) ≡ true → Goal (keptLow s true low (middle s low high)) (keptHigh s true (middle s low high) high) → Goal low high
+  step-exact : (b : Bool) (low high : ℕ) → low < high → p (middle s low high) ≡ b
+      → Goal (keptLow s b low (middle s low high)) (keptHigh s b (middle s low high) high) → Goal low high
   unfolding Goal
-  won-exact low high h q ih l t e =
-      let m = middle s low high in
-      let k = part s true low high h in
-      let i = ih (k .ordered) (in-part low high _ _ t (k .lower) (k .upper)) (ap p (first-won s low m high) ∙ q) in
-      rw (halve-step s p low high true h q)
-      (record { inside = ((omega arith), (omega arith)); holds = i .holds; only = λ v j w. go i v w (won-or-better s low m high v j) })
+  step-exact b low high h q ih l t e =
+      let k = kept s b low high h in
+      let i = ih (k .ordered) (in-part low high _ _ t (k .lower) (k .upper)) (first-kept s p b low m high q e) in
+      rw (halve-step s p low high b h q)
+      (record { inside = omega arith; holds = i .holds; only = λ v j w. go b q i v j w (in-or-out s b low m high _ v j (i .inside) (decLt m v) (decLt v m)) })
     where
-      go : {b : ℕ} → Turn (keptLow s true low (middle s low high)) (keptHigh s true (middle s low high) high) b → (v : ℕ) → p v ≡ true → In (range (keptLow s true low (middle s low high)) (keptHigh s true (middle s low high) high)) v ⊎ AtOrBetter s (middle s low high) v → AtOrBetter s b v
-      go i v w (inl j) = i .only v j w
-      go {b} i v w (inr j) =
-          favour-goes-on s b (middle s low high) v
-          (rw (first-won s low (middle s low high) high) at (first-best s _ _ b (i .inside)))
-          j
+      m : ℕ
+      m = middle s low high
 
-  lost-exact : (low high : ℕ) → low < high → p (middle s low high) ≡ false → Goal (keptLow s false low (middle s low high)) (keptHigh s false (middle s low high) high) → Goal low high
-  unfolding Goal
-  lost-exact low high h q ih l t e =
-      let m = middle s low high in
-      let k = part s false low high h in
-      let i = ih (k .ordered) (in-part low high _ _ t (k .lower) (k .upper)) (ap p (first-lost s low m high) ∙ e) in
-      rw (halve-step s p low high false h q)
-      (record { inside = ((omega arith), (omega arith)); holds = i .holds; only = λ v j w. go i v j w (lost-or-worse s low m high v j) })
-    where
-      go : {b : ℕ} → Turn (keptLow s false low (middle s low high)) (keptHigh s false (middle s low high) high) b → (v : ℕ) → In (range low high) v → p v ≡ true → In (range (keptLow s false low (middle s low high)) (keptHigh s false (middle s low high) high)) v ⊎ AtOrBetter s v (middle s low high) → AtOrBetter s b v
-      go i v j w (inl k) = i .only v k w
-      go i v j w (inr k) = absurd (false≢true (sym q ∙ t v (middle s low high) j (middle-in s low high h) k w))
+      go : (b : Bool) → p m ≡ b → {c : ℕ} → Turn (keptLow s b low m) (keptHigh s b m high) c → (v : ℕ) → In (range low high) v → p v ≡ true
+          → In (range (keptLow s b low m) (keptHigh s b m high)) v ⊎ Out s b m c v → AtOrBetter s c v
+      go b q i v j w (inl k) = i .only v k w
+      go true q i v j w (inr k) = k
+      go false q i v j w (inr k) = absurd (false≢true (sym q ∙ t v m j (let d = kept s true low high h in (d .mid-low, d .mid-high)) k w))
 
   exact-in : (d low high : ℕ) → high ≤ low + d → Goal low high
   exact-in zero low high w = alone-exact low high (omega arith)
-  exact-in (suc d) low high w = go (decLt low high) (truth (p (middle s low high))) (λ a b. exact-in d a b)
+  exact-in (suc d) low high w = go (decLt low high) (λ a b. exact-in d a b)
     where
-      go : Dec (low < high) → Truth (p (middle s low high)) → ((a b : ℕ) → b ≤ a + d → Goal a b) → Goal low high
-      go (yes h) (is q) ih = let k = part s true low high h in won-exact low high h q (ih _ _ (omega arith))
-      go (yes h) (isnt q) ih = let k = part s false low high h in lost-exact low high h q (ih _ _ (omega arith))
-      go (no h) t ih = alone-exact low high (omega arith)
+      go : Dec (low < high) → ((a b : ℕ) → b ≤ a + d → Goal a b) → Goal low high
+      go (yes h) ih = let k = kept s (p (middle s low high)) low high h in step-exact (p (middle s low high)) low high h refl (ih _ _ (omega arith))
+      go (no h) ih = alone-exact low high (omega arith)
 
-  halve-exact : (low high : ℕ) → low ≤ high → TurnsOnce s p (range low high) → p (firstTried s low high) ≡ true → BoundaryAt s p (range low high) (halve s p low high .at)
+  halve-exact : (low high : ℕ) → low ≤ high → TurnsOnce s p (range low high) → p (firstTried s low high) ≡ true
+      → BoundaryAt s p (range low high) (halve s p low high .at)
   unfolding Goal
   halve-exact low high l t e =
       let i = exact-in (high - low) low high (omega arith) l t e in
@@ -190,7 +143,8 @@ module _ (s : Side) (p : ℕ → Bool) where
 
   -- Demand 3. A SEARCH AFTER THE FAR END IS EXACT over any test that turns once and holds at the end tried first: it finds the last setting
   -- at which the test holds, and nothing where it holds everywhere. An empty range is one at whose far end the test holds
-  pub margin-exact : (low high : ℕ) → TurnsOnce s p (range low high) → p (firstTried s low high) ≡ true → (high < low → p (farEnd s low high) ≡ true) → FarEndExact s p (range low high) (searchAfterFarEnd s p low high)
+  pub margin-exact : (low high : ℕ) → TurnsOnce s p (range low high) → p (firstTried s low high) ≡ true → (high < low → p (farEnd s low high) ≡ true)
+      → FarEndExact s p (range low high) (searchAfterFarEnd s p low high)
   margin-exact low high t e n = go (truth (p (farEnd s low high))) (decLt high low)
     where
       go : Truth (p (farEnd s low high)) → Dec (high < low) → FarEndExact s p (range low high) (searchAfterFarEnd s p low high)
@@ -209,12 +163,4 @@ module _ (s : Side) (p : ℕ → Bool) where
 
   -- Demand 3. And one more after the far end
   pub margin-short : (k low high : ℕ) → high - low < 2 ^ k → passesOf (searchAfterFarEnd s p low high) ≤ 2 + k
-  margin-short k low high w = go (truth (p (farEnd s low high)))
-    where
-      later : (r : Bound) → passesOf r ≤ 1 + k → passesOf (laterBy 1 r) ≤ 2 + k
-      later (At b n) h = omega arith
-      later (Nothing n) h = omega arith
-
-      go : Truth (p (farEnd s low high)) → passesOf (searchAfterFarEnd s p low high) ≤ 2 + k
-      go (is f) = rw (margin-none s p low high f) (omega arith)
-      go (isnt f) = rw (margin-some s p low high f) (later (searchOf s p low high) (search-short k low high w))
+  margin-short k low high w = far-few s p k low high refl (omega arith)

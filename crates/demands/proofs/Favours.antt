@@ -1,19 +1,10 @@
 -- A model that is nowhere less favourable does as well as the other; and each lever's settings are ordered so. Assumes nothing.
-use mathlib.Core.Path.{refl, ap}
-use native.Mathlib.Nat.{le-refl, le-of-eq}
-use Rattle.rules.specs.Limits.{ppm}
-use Rattle.rules.specs.Choice.{equal}
-use Rattle.rules.specs.Numbers.{Verdict}
-use Rattle.rules.specs.Rank.{better}
-use Rattle.rules.specs.Halving.{Lowest, Highest}
-use Rattle.rules.specs.Levers.{leverAt}
-use Rattle.rules.specs.declared.records.KernelModel.{KernelModel}
-use Rattle.rules.specs.declared.records.KernelInput.{KernelInput}
-use Rattle.rules.specs.declared.records.PolicySnapshot.{PolicySnapshot}
+use Rattle.rules.proofs.Kit.{refl, ap, le-refl, le-of-eq}
+use Rattle.rules.specs.{Limits.ppm, Choice.equal, Numbers.Verdict, Rank.better, Halving.Lowest, Halving.Highest, Levers.leverAt}
+use Rattle.rules.specs.{declared.records.KernelModel.KernelModel, declared.records.KernelInput.KernelInput, declared.records.PolicySnapshot.PolicySnapshot}
 use Rattle.demands.specs.Standing.{AsGood, Favours, Ordered}
-use Rattle.demands.proofs.Integers.{higher-not, lower-not}
-use Rattle.demands.proofs.Terms.{scaled-rises, scaled-at-one, cost-falls, utility-rises}
-use Rattle.demands.proofs.Eligible.{passes, told-terms, stays-eligible}
+use Rattle.demands.proofs.{Integers.higher-not, Integers.lower-not, Terms.scaled-rises, Terms.scaled-at-one, Terms.cost-falls, Terms.utility-rises}
+use Rattle.demands.proofs.{Eligible.passes, Eligible.told-terms, Eligible.stays-eligible}
 
 -- Demand 3. A model that is nowhere less favourable does as well: it is eligible where the other is, and the other does not rank before it
 pub as-good : (p : PolicySnapshot) (q : KernelInput) (y x : KernelModel) → Favours y x → AsGood p q y x
@@ -21,7 +12,7 @@ unfolding better
 as-good p q y x f =
     record {
       id = f .id;
-      eligible = λ e. ap (λ (v : Verdict). v .verdict) (told-terms p q y (stays-eligible p q y x f (passes p q x e)));
+      eligible = λ e. ap (λ (v : Verdict). v .kind) (told-terms p q y (stays-eligible p q y x f (passes p q x e)));
       notAfter = λ e place.
           let h = passes p q x e in
           rw (told-terms p q x h, told-terms p q y (stays-eligible p q y x f h))

@@ -1,37 +1,28 @@
 -- The first of the ranking is the chosen record: the eligible one that no eligible one ranks before. Assumes nothing.
-use mathlib.Core.Path.{_≡_, refl, sym, ap, subst, _∙_}
-use mathlib.Core.Bool.{Bool, true, false, cond}
-use mathlib.Core.Logic.{⊎-elim}
-use mathlib.Core.List.{List, [], _∷_, List·Memᴰ, List·Memᴰ·head, List·Memᴰ·tail, List·Memᴰ·not-nil, List·Memᴰ·cases-cons, Permᴰ·symm}
-use borrow.Author.Tests.{eqb-true, eq-eqb}
-use lib.Dec.{eqb}
-use Rattle.rules.specs.Choice.{equal}
-use Rattle.rules.specs.Records.{Listed}
-use Rattle.rules.specs.Verdict.{Judged, judge, judged}
-use Rattle.rules.specs.Rank.{Candidate, candidateOf, better, eligibles, ranking}
-use Rattle.rules.specs.declared.records.KernelInput.{KernelInput}
-use Rattle.rules.specs.declared.records.PolicySnapshot.{PolicySnapshot}
-use Rattle.rules.proofs.Better.{better-not-itself, neither-better}
-use Rattle.demands.specs.Lists.{Each}
-use Rattle.demands.specs.Ranked.{InOrder}
+use Rattle.rules.proofs.Kit.{_≡_, refl, sym, ap, subst, _∙_, Bool, true, false, cond, ⊎-elim, List, [], _∷_, List·Memᴰ, List·Memᴰ·head, List·Memᴰ·tail}
+use Rattle.rules.proofs.Kit.{List·Memᴰ·not-nil, List·Memᴰ·cases-cons, Permᴰ·symm, eqb-true, eq-eqb, eqb}
+use Rattle.rules.specs.{Choice.equal, Order.Each, Order.InOrder, Records.Listed, Verdict.Judged, Verdict.judge, Verdict.judged, Rank.Candidate}
+use Rattle.rules.specs.{Rank.candidateOf, Rank.better, Rank.eligibles, Rank.ranking, declared.records.KernelInput.KernelInput}
+use Rattle.rules.specs.{declared.records.PolicySnapshot.PolicySnapshot}
+use Rattle.rules.proofs.{Sorted.each-moved, Better.ranking-in-order, Better.better-not-itself, Better.neither-better}
 use Rattle.demands.specs.Standing.{Eligible, Chosen}
-use Rattle.demands.proofs.Lists.{each-so, each-member, each-moved}
-use Rattle.demands.proofs.Ranking.{ranking-in-order, ranking-permutes}
+use Rattle.demands.proofs.{Lists.each-member, Ranking.ranking-permutes}
 
 -- ---- the first of the ranking
 
-members : {A : Type 0} (xs : List A) → Each (λ x. List·Memᴰ x xs) xs
-members [] = tt
-members (x ∷ xs) = (List·Memᴰ·head refl, each-so _ _ (λ y m. List·Memᴰ·tail m) xs (members xs))
+-- what holds for every member holds for each
+each-of : {A : Type 0} (P : A → Type 0) (xs : List A) → ((x : A) → List·Memᴰ x xs → P x) → Each P xs
+each-of P [] f = tt
+each-of P (x ∷ xs) f = (f x (List·Memᴰ·head refl), each-of P xs (λ y m. f y (List·Memᴰ·tail m)))
 
 module _ (js : List Judged) where
   -- is an eligible one that none ranks before
   first-top : (c : Candidate) (rest : List Candidate) → ranking js ≡ c ∷ rest → List·Memᴰ c (eligibles js) × Each (λ x. better x c ≡ false) (eligibles js)
   first-top c rest e = (
-    subst (λ cs. Each (λ x. List·Memᴰ x (eligibles js)) cs) e (each-moved _ (Permᴰ·symm (ranking-permutes js)) (members (eligibles js))) .0,
+    subst (λ cs. Each (λ x. List·Memᴰ x (eligibles js)) cs) e (each-moved _ (Permᴰ·symm (ranking-permutes js)) (each-of _ (eligibles js) (λ x m. m))) .0,
     each-moved _ (ranking-permutes js)
         (subst (λ cs. Each (λ x. better x c ≡ false) cs) (sym e)
-        (better-not-itself c, subst InOrder e (ranking-in-order js) .0)),
+        (better-not-itself c, subst (InOrder better) e (ranking-in-order js) .0)),
   )
 
   -- and such a one is the first
@@ -39,25 +30,24 @@ module _ (js : List Judged) where
   top-first c m t = go (ranking js) refl
     where
       go : (cs : List Candidate) → ranking js ≡ cs → (rest : List Candidate) × (ranking js ≡ c ∷ rest)
-      go [] e = absurd (each-member (λ (x : Candidate). ⊥) (each-moved (λ (x : Candidate). ⊥) (ranking-permutes js) (subst (Each (λ (x : Candidate). ⊥)) (sym e) tt)) m)
+      go [] e =
+          absurd (each-member (λ (x : Candidate). ⊥)
+          (each-moved (λ (x : Candidate). ⊥) (ranking-permutes js) (subst (Each (λ (x : Candidate). ⊥)) (sym e) tt)) m)
       go (d ∷ rest) e =
           let (n, u) = first-top d rest e in
           (rest, e ∙ ap (λ x. x ∷ rest) (neither-better d c (each-member (λ x. better x c ≡ false) t n) (each-member (λ x. better x d ≡ false) u m)))
 
 -- ---- the eligible models of a list are its eligible records
 
-each-of : {A : Type 0} (P : A → Type 0) (xs : List A) → ((x : A) → List·Memᴰ x xs → P x) → Each P xs
-each-of P [] f = tt
-each-of P (x ∷ xs) f = (f x (List·Memᴰ·head refl), each-of P xs (λ y m. f y (List·Memᴰ·tail m)))
-
 module _ (p : PolicySnapshot) (q : KernelInput) where
   eligible-in : (k : Listed) {ls : List Listed} → List·Memᴰ k ls → Eligible p q (k .model) → List·Memᴰ (candidateOf (judge p q k)) (eligibles (judged p q ls))
   unfolding equal
   eligible-in k (List·Memᴰ·head {x = l} {xs = ls} e) h =
-      rw (eq-eqb (judge p q l .verdict .verdict) 4 (rw e at h)) (List·Memᴰ·head (ap (λ i. candidateOf (judge p q i)) e))
-  eligible-in k (List·Memᴰ·tail {x = l} {xs = ls} m) h = go (eqb (judge p q l .verdict .verdict) 4) (eligible-in k m h)
+      rw (eq-eqb (judge p q l .verdict .kind) 4 (rw e at h)) (List·Memᴰ·head (ap (λ i. candidateOf (judge p q i)) e))
+  eligible-in k (List·Memᴰ·tail {x = l} {xs = ls} m) h = go (eqb (judge p q l .verdict .kind) 4) (eligible-in k m h)
     where
-      go : (t : Bool) → List·Memᴰ (candidateOf (judge p q k)) (eligibles (judged p q ls)) → List·Memᴰ (candidateOf (judge p q k)) (cond t (candidateOf (judge p q l) ∷ eligibles (judged p q ls)) (eligibles (judged p q ls)))
+      go : (t : Bool) → List·Memᴰ (candidateOf (judge p q k)) (eligibles (judged p q ls))
+          → List·Memᴰ (candidateOf (judge p q k)) (cond t (candidateOf (judge p q l) ∷ eligibles (judged p q ls)) (eligibles (judged p q ls)))
       go true r = List·Memᴰ·tail r
       go false r = r
 
@@ -74,9 +64,10 @@ module _ (p : PolicySnapshot) (q : KernelInput) where
   eligible-from : (ls : List Listed) (c : Candidate) → List·Memᴰ c (eligibles (judged p q ls)) → From ls c
   unfolding equal
   eligible-from [] c m = absurd (List·Memᴰ·not-nil m)
-  eligible-from (l ∷ ls) c m = go (λ n. eligible-from ls c n) (eqb (judge p q l .verdict .verdict) 4) refl m
+  eligible-from (l ∷ ls) c m = go (λ n. eligible-from ls c n) (eqb (judge p q l .verdict .kind) 4) refl m
     where
-      go : (List·Memᴰ c (eligibles (judged p q ls)) → From ls c) → (t : Bool) → eqb (judge p q l .verdict .verdict) 4 ≡ t → List·Memᴰ c (cond t (candidateOf (judge p q l) ∷ eligibles (judged p q ls)) (eligibles (judged p q ls))) → From (l ∷ ls) c
+      go : (List·Memᴰ c (eligibles (judged p q ls)) → From ls c) → (t : Bool) → eqb (judge p q l .verdict .kind) 4 ≡ t
+          → List·Memᴰ c (cond t (candidateOf (judge p q l) ∷ eligibles (judged p q ls)) (eligibles (judged p q ls))) → From (l ∷ ls) c
       go ih true e m =
           ⊎-elim
           (λ (s : c ≡ candidateOf (judge p q l)). record { source = l; member = List·Memᴰ·head refl; eligible = eqb-true _ _ e; same = s })
@@ -91,7 +82,8 @@ module _ (p : PolicySnapshot) (q : KernelInput) where
         top-first (judged p q ls) (candidateOf (judge p q l)) (eligible-in l (h .member) (h .eligible))
         (each-of _ (eligibles (judged p q ls)) (λ c m. let f = eligible-from ls c m in rw (f .same) (h .first (f .source) (f .member) (f .eligible))))
 
-    pub first-chosen : (c : Candidate) (rest : List Candidate) → ranking (judged p q ls) ≡ c ∷ rest → (l : Listed) × Chosen p q ls l × (c ≡ candidateOf (judge p q l))
+    pub first-chosen : (c : Candidate) (rest : List Candidate) → ranking (judged p q ls) ≡ c ∷ rest
+        → (l : Listed) × Chosen p q ls l × (c ≡ candidateOf (judge p q l))
     first-chosen c rest e =
         let (m, t) = first-top (judged p q ls) c rest e in
         let f = eligible-from ls c m in (

@@ -1,16 +1,8 @@
 -- The order of integers as a type, and what keeps it: taking numbers away, and holding within i64. Assumes nothing.
-use Prim.Native.Nat.{ℕ, zero, suc, _+_, _≤_, _<_}
-use mathlib.Core.Path.{_≡_, refl, sym, ap}
-use mathlib.Core.Bool.{Bool, true, false, cond, false≢true}
-use native.Mathlib.Decide.{decLt}
-use native.Mathlib.Omega.{arith}
-use borrow.Author.Tests.{lt-ltb, le-ltb, lt-leb, leb-false}
-use lib.Dec.{ltb}
-use lib.IntN.{ℤ, pos, negsuc, subℕ, _-ℤ_}
-use lib.Signed.{ltZ, leZ}
+use Rattle.rules.proofs.Kit.{ℕ, zero, suc, _+_, _≤_, _<_, _≡_, refl, sym, ap, Bool, true, false, cond, false≢true, decLt, arith, lt-ltb, le-ltb, lt-leb}
+use Rattle.rules.proofs.Kit.{leb-false, ltb, ℤ, pos, negsuc, subℕ, _-ℤ_, ltZ, leZ}
 use Rattle.rules.proofs.Integers.{sub-is}
-use Rattle.rules.specs.Choice.{higher, lower}
-use Rattle.rules.specs.Utility.{held}
+use Rattle.rules.specs.{Choice.higher, Choice.lower, Utility.held}
 
 -- x is at most y
 abbrev pub AtMost : ℤ → ℤ → Type 0

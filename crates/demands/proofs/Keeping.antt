@@ -1,27 +1,13 @@
 -- The Rust's loop keeps the first two of the ranking: where places rise, its test without the place and `better` agree on a new candidate
 -- and one that is kept. Assumes nothing.
-use Prim.Native.Nat.{ℕ, _<_}
-use mathlib.Core.Path.{_≡_, refl, sym, _∙_}
-use mathlib.Core.Bool.{Bool, true, false, cond, _&&_, _||_}
-use mathlib.Core.List.{List, [], _∷_, foldl}
-use mathlib.Core.Option.{some}
-use native.Mathlib.Omega.{arith}
-use borrow.Author.Tests.{ltb-true, ltb-false, eq-eqb, ne-eqb}
-use lib.Dec.{eqb, ltb}
-use lib.IntN.{ℤ, pos, negsuc}
-use lib.Signed.{ltZ}
-use Rattle.rules.specs.Choice.{firstly, lower, higher}
-use Rattle.rules.specs.Verdict.{Judged}
-use Rattle.rules.specs.Rank.{Candidate, better, insert, sorted, eligibles, ranking}
-use Rattle.rules.specs.declared.records.KernelInput.{KernelInput}
-use Rattle.rules.specs.declared.records.PolicySnapshot.{PolicySnapshot}
-use Rattle.rules.proofs.Choices.{lower-no}
-use Rattle.demands.specs.Lists.{Each, Rising}
-use Rattle.demands.specs.Ranked.{judgedOf, PlacesRise}
-use Rattle.demands.specs.Keeping.{eqZ, betterInRust, two, turn, keptInRust, firstTwo}
-use Rattle.demands.proofs.Lists.{each-both}
-use Rattle.demands.proofs.Ranking.{insert-each}
-use Rattle.demands.proofs.Places.{judged-rising, eligibles-rising}
+use Rattle.rules.proofs.Kit.{ℕ, _<_, _≡_, refl, sym, _∙_, Bool, true, false, cond, _&&_, _||_, List, [], _∷_, foldl, some, arith, ltb-true, ltb-false, eq-eqb}
+use Rattle.rules.proofs.Kit.{ne-eqb, eqb, ltb, ℤ, pos, negsuc, ltZ}
+use Rattle.rules.specs.{Choice.firstly, Choice.lower, Choice.higher, Order.insertBy, Order.sortedBy, Order.Each, Verdict.Judged, Rank.Candidate, Rank.better}
+use Rattle.rules.specs.{Rank.eligibles, Rank.ranking, declared.records.KernelInput.KernelInput, declared.records.PolicySnapshot.PolicySnapshot}
+use Rattle.rules.proofs.{Sorted.insert-each, Choices.lower-no, Choices.lower-last}
+use Rattle.demands.specs.{Lists.Rising, Ranked.judgedOf, Ranked.PlacesRise, Keeping.eqZ, Keeping.betterInRust, Keeping.two, Keeping.turn}
+use Rattle.demands.specs.{Keeping.keptInRust, Keeping.firstTwo}
+use Rattle.demands.proofs.{Lists.each-both, Places.judged-rising, Places.eligibles-rising}
 
 -- ---- the Rust's test, key by key
 
@@ -49,15 +35,6 @@ by-integer (pos a) (negsuc b) r = refl
 by-integer (negsuc a) (pos b) r = refl
 by-integer (negsuc a) (negsuc b) r = lower-first a b r
 
-last-key : (a b : ℕ) → ltb a b ≡ lower a b false
-unfolding lower
-last-key a b = go (ltb a b) (ltb b a)
-  where
-    go : (t u : Bool) → t ≡ firstly t u false
-    go true u = refl
-    go false true = refl
-    go false false = refl
-
 -- four tests in a row are one inside the other
 nested : (u e c f q g i : Bool) → (u || (e && c) || (e && f && q) || (e && f && g && i)) ≡ (u || (e && (c || (f && (q || (g && i))))))
 nested true e c f q g i = refl
@@ -67,11 +44,18 @@ nested false true false false q g i = refl
 nested false true false true true g i = refl
 nested false true false true false g i = refl
 
-in-turn : (a b : Candidate) → betterInRust a b ≡ higher (a .utility) (b .utility) (lower (a .cost) (b .cost) (lower (b .quality) (a .quality) (lower (a .id) (b .id) false)))
+in-turn : (a b : Candidate) → betterInRust a b
+    ≡ higher (a .utility) (b .utility) (lower (a .cost) (b .cost) (lower (b .quality) (a .quality) (lower (a .id) (b .id) false)))
 unfolding betterInRust
 in-turn a b =
-    nested (ltZ (b .utility) (a .utility)) (eqZ (a .utility) (b .utility)) (ltb (a .cost) (b .cost)) (eqb (a .cost) (b .cost)) (ltb (b .quality) (a .quality)) (eqb (a .quality) (b .quality)) (ltb (a .id) (b .id))
-    ∙ rw (higher-first (a .quality) (b .quality) (ltb (a .id) (b .id)), lower-first (a .cost) (b .cost), by-integer (a .utility) (b .utility), last-key (a .id) (b .id))
+    nested (ltZ (b .utility) (a .utility)) (eqZ (a .utility) (b .utility)) (ltb (a .cost) (b .cost)) (eqb (a .cost) (b .cost)) (ltb (b .quality) (a .quality))
+    (eqb (a .quality) (b .quality)) (ltb (a .id) (b .id))
+    ∙ rw (
+      higher-first (a .quality) (b .quality) (ltb (a .id) (b .id)),
+      lower-first (a .cost) (b .cost),
+      by-integer (a .utility) (b .utility),
+      ← lower-last (a .id) (b .id),
+    )
 
 -- on a later candidate and an earlier one the two tests agree
 pub same-test : (later earlier : Candidate) → earlier .place < later .place → betterInRust later earlier ≡ better later earlier
@@ -80,7 +64,7 @@ same-test a b h = in-turn a b ∙ rw (lower-no (a .place) (b .place) false h)
 
 -- ---- the loop
 
-turn-insert : (xs : List Candidate) (c : Candidate) → Each (λ x. x .place < c .place) xs → firstTwo (insert xs c) ≡ turn (firstTwo xs) c
+turn-insert : (xs : List Candidate) (c : Candidate) → Each (λ x. x .place < c .place) xs → firstTwo (insertBy better xs c) ≡ turn (firstTwo xs) c
 unfolding turn
 turn-insert [] c h = refl
 turn-insert (x ∷ []) c h = rw (same-test c x (h .0)) (go (better c x))
@@ -90,28 +74,30 @@ turn-insert (x ∷ []) c h = rw (same-test c x (h .0)) (go (better c x))
     go false = refl
 turn-insert (x ∷ y ∷ zs) c h = rw (same-test c x (h .0), same-test c y (h .1 .0)) (go (better c x) (better c y))
   where
-    go : (t u : Bool) → firstTwo (cond t (c ∷ x ∷ y ∷ zs) (x ∷ cond u (c ∷ y ∷ zs) (y ∷ insert zs c))) ≡ cond t (two (some c) (some x)) (cond u (two (some x) (some c)) (two (some x) (some y)))
+    go : (t u : Bool) → firstTwo (cond t (c ∷ x ∷ y ∷ zs) (x ∷ cond u (c ∷ y ∷ zs) (y ∷ insertBy better zs c)))
+        ≡ cond t (two (some c) (some x)) (cond u (two (some x) (some c)) (two (some x) (some y)))
     go true u = refl
     go false true = refl
     go false false = refl
 
-kept-from : (cs acc : List Candidate) → Rising (λ (c : Candidate). c .place) cs → Each (λ c. Each (λ x. x .place < c .place) acc) cs → foldl turn (firstTwo acc) cs ≡ firstTwo (foldl insert acc cs)
+kept-from : (cs acc : List Candidate) → Rising (λ (c : Candidate). c .place) cs → Each (λ c. Each (λ x. x .place < c .place) acc) cs
+    → foldl turn (firstTwo acc) cs ≡ firstTwo (foldl (insertBy better) acc cs)
 kept-from [] acc h k = refl
 kept-from (c ∷ cs) acc h k =
     rw (← turn-insert acc c (k .0))
-    (kept-from cs (insert acc c) (h .1)
-    (each-both (λ d. c .place < d .place) (λ d. Each (λ x. x .place < d .place) acc) (λ d. Each (λ x. x .place < d .place) (insert acc c))
-    (λ d p q. insert-each (λ x. x .place < d .place) acc c p q) cs (h .0) (k .1)))
+    (kept-from cs (insertBy better acc c) (h .1)
+    (each-both (λ d. c .place < d .place) (λ d. Each (λ x. x .place < d .place) acc) (λ d. Each (λ x. x .place < d .place) (insertBy better acc c))
+    (λ d p q. insert-each better (λ x. x .place < d .place) acc c p q) cs (h .0) (k .1)))
 
-none-before : (cs : List Candidate) → Each (λ c. Each (λ (x : Candidate). x .place < c .place) []) cs
-none-before [] = tt
-none-before (c ∷ cs) = (tt, none-before cs)
+nothing-before : (cs : List Candidate) → Each (λ c. Each (λ (x : Candidate). x .place < c .place) []) cs
+nothing-before [] = tt
+nothing-before (c ∷ cs) = (tt, nothing-before cs)
 
 -- Demand 2. Over candidates whose places rise, the Rust's loop ends with the first two in order: where the first four keys are level, the
 -- earlier place keeps its rank, though the Rust never compares places
-pub rust-keeps-first-two : (cs : List Candidate) → Rising (λ (c : Candidate). c .place) cs → keptInRust cs ≡ firstTwo (sorted cs)
+pub rust-keeps-first-two : (cs : List Candidate) → Rising (λ (c : Candidate). c .place) cs → keptInRust cs ≡ firstTwo (sortedBy better cs)
 unfolding keptInRust
-rust-keeps-first-two cs h = kept-from cs [] h (none-before cs)
+rust-keeps-first-two cs h = kept-from cs [] h (nothing-before cs)
 
 -- Demand 2. So over any list whose places rise it ends with the first two of the ranking
 pub rust-keeps-ranking : (js : List Judged) → PlacesRise js → keptInRust (eligibles js) ≡ firstTwo (ranking js)
@@ -119,5 +105,6 @@ unfolding ranking
 rust-keeps-ranking js h = rust-keeps-first-two (eligibles js) (eligibles-rising js h)
 
 -- Demand 2. And so over every bank
-pub rust-keeps-of-bank : (p : PolicySnapshot) (q : KernelInput) (bank : List ℕ) → keptInRust (eligibles (judgedOf p q bank)) ≡ firstTwo (ranking (judgedOf p q bank))
+pub rust-keeps-of-bank : (p : PolicySnapshot) (q : KernelInput) (bank : List ℕ)
+    → keptInRust (eligibles (judgedOf p q bank)) ≡ firstTwo (ranking (judgedOf p q bank))
 rust-keeps-of-bank p q bank = rust-keeps-ranking (judgedOf p q bank) (judged-rising p q bank)

@@ -1,41 +1,18 @@
--- Laws of the Rust's arithmetic: where a result fits, nothing wraps and nothing saturates. And the one law of a list's largest key.
+-- Laws of the Rust's checked arithmetic, and the one law of a list's largest key.
 -- Assumes nothing.
-use Prim.Native.Nat.{ℕ, _+_, _-_, _*_, _^_, _≤_, _<_}
-use mathlib.Core.Path.{_≡_, refl, sym, ap, _∙_}
-use mathlib.Core.Bool.{Bool, true, false, false≢true, cond}
-use mathlib.Core.List.{List, List·Memᴰ, List·Memᴰ·head, List·Memᴰ·tail}
-use mathlib.Core.Option.{Option, none, some, Option·some-injective, Option·none-ne-some, Option·elim as mapOrElse}
-use native.Mathlib.Nat.{le-max-left, le-max-right, le-trans, le-of-eq, le-of-lt, lt-of-le-of-lt, mod-eq-of-lt, min-eq-right, mul-le-mul-right, mul-lt-mul-of-pos-left}
-use lib.Dec.{ltb}
+use Rattle.rules.proofs.Kit.{ℕ, _+_, _*_, _^_, _≤_, _<_, _≡_, refl, sym, ap, _∙_, Bool, true, false, false≢true, cond, List, List·Memᴰ, List·Memᴰ·head}
+use Rattle.rules.proofs.Kit.{List·Memᴰ·tail, Option, none, some, Option·some-injective, Option·none-ne-some, le-max-left, le-max-right, le-trans, le-of-eq}
+use Rattle.rules.proofs.Kit.{le-of-lt, lt-of-le-of-lt, mul-le-mul-right, mul-lt-mul-of-pos-left, ltb, ltb-true, ltb-false}
+use mathlib.Core.Option.{Option·elim as mapOrElse}
 use lib.Pow.{pow-add, pow-pos}
-use borrow.Author.Tests.{ltb-true, ltb-false}
 use Rattle.rules.proofs.Choices.{below-yes, below-no}
-use Rattle.demands.specs.Machine.{wrappingMul, wrappingAdd, checked, isSome, saturatingMul, saturatingAdd}
-use Rattle.demands.specs.Paths.{largest}
+use Rattle.demands.specs.{Machine.checked, Machine.isSome, Paths.largest}
 
 -- an element's key is at most the largest, over any key
 pub at-most-largest : {A : Type 0} {x : A} {xs : List A} (key : A → ℕ) → List·Memᴰ x xs → key x ≤ largest key xs
 unfolding largest
 at-most-largest key (List·Memᴰ·head e) = le-trans (le-of-eq (ap key e)) (le-max-left _ _)
 at-most-largest key (List·Memᴰ·tail r) = le-trans (at-most-largest key r) (le-max-right _ _)
-
--- a sum or a product that 64 bits hold doesn't wrap
-pub wrapping-mul : (a b : ℕ) → a * b < 2 ^ 64 → wrappingMul a b ≡ a * b
-unfolding wrappingMul
-wrapping-mul a b h = mod-eq-of-lt h
-
-pub wrapping-add : (a b : ℕ) → a + b < 2 ^ 64 → wrappingAdd a b ≡ a + b
-unfolding wrappingAdd
-wrapping-add a b h = mod-eq-of-lt h
-
--- one that 128 bits hold doesn't saturate
-pub saturating-mul : (a b : ℕ) → a * b ≤ 2 ^ 128 - 1 → saturatingMul a b ≡ a * b
-unfolding saturatingMul
-saturating-mul a b h = min-eq-right h
-
-pub saturating-add : (a b : ℕ) → a + b ≤ 2 ^ 128 - 1 → saturatingAdd a b ≡ a + b
-unfolding saturatingAdd
-saturating-add a b h = min-eq-right h
 
 -- a checked result is exact, and below 2 ^ 64
 pub checked-some : (n k : ℕ) → checked n ≡ some k → (n < 2 ^ 64) × (k ≡ n)

@@ -12,6 +12,7 @@ pub mod Sums
 pub mod Keeping
 pub mod Dominant
 pub mod ChoiceExample
+pub mod Ordering
 pub mod Exact
 pub mod Integers
 pub mod Terms
@@ -30,4 +31,3 @@ pub mod Passes
 pub mod Validated
 pub mod BoundariesExample
 pub mod SettingsExample
-pub mod MonotoneExample

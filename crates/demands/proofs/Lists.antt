@@ -1,17 +1,11 @@
 -- Laws of lists: what holds for each or for all pairs, and what a permutation keeps. Assumes nothing.
-use Prim.Native.Nat.{ℕ}
-use mathlib.Core.Path.{_≡_, refl, sym, subst, _∙_}
-use mathlib.Core.Bool.{Bool, false}
-use mathlib.Core.List.{List, [], _∷_, List·Memᴰ, List·Memᴰ·head, List·Memᴰ·tail, List·Permᴰ, List·Permᴰ·nil, List·Permᴰ·cons, List·Permᴰ·swap, List·Permᴰ·trans}
-use native.Mathlib.Omega.{arith}
-use Rattle.rules.proofs.Counts.{swap}
-use Rattle.demands.specs.Lists.{Each, Pairs, Rising, Different, many}
+use Rattle.rules.proofs.Kit.{ℕ, _≡_, refl, sym, subst, _∙_, Bool, false, List, [], _∷_, List·Memᴰ, List·Memᴰ·head, List·Memᴰ·tail, List·Permᴰ, List·Permᴰ·nil}
+use Rattle.rules.proofs.Kit.{List·Permᴰ·cons, List·Permᴰ·swap, List·Permᴰ·trans, arith}
+use Rattle.rules.specs.Order.{Each, Pairs}
+use Rattle.rules.proofs.{Counts.swap, Sorted.each-so, Sorted.each-moved}
+use Rattle.demands.specs.Lists.{Rising, Different, many}
 
 module _ {A : Type 0} where
-  pub each-so : (P Q : A → Type 0) → ((a : A) → P a → Q a) → (xs : List A) → Each P xs → Each Q xs
-  each-so P Q so [] h = tt
-  each-so P Q so (x ∷ xs) h = (so x (h .0), each-so P Q so xs (h .1))
-
   pub each-both : (P Q S : A → Type 0) → ((a : A) → P a → Q a → S a) → (xs : List A) → Each P xs → Each Q xs → Each S xs
   each-both P Q S so [] h k = tt
   each-both P Q S so (x ∷ xs) h k = (so x (h .0) (k .0), each-both P Q S so xs (h .1) (k .1))
@@ -35,18 +29,14 @@ module _ {A : Type 0} where
 
   -- ---- what a permutation keeps
 
-  pub each-moved : (P : A → Type 0) {xs ys : List A} → List·Permᴰ xs ys → Each P xs → Each P ys
-  each-moved P List·Permᴰ·nil h = tt
-  each-moved P (List·Permᴰ·cons e d) h = (subst P e (h .0), each-moved P d (h .1))
-  each-moved P (List·Permᴰ·swap e f) h = (subst P f (h .1 .0), (subst P e (h .0), h .1 .1))
-  each-moved P (List·Permᴰ·trans d f) h = each-moved P f (each-moved P d h)
-
   pub pairs-moved : (R : A → A → Type 0) → ((a b : A) → R a b → R b a) → {xs ys : List A} → List·Permᴰ xs ys → Pairs R xs → Pairs R ys
   pairs-moved R back List·Permᴰ·nil h = tt
   pairs-moved R back (List·Permᴰ·cons {l₂ = l} e d) h =
       (subst (λ (x : A). Each (R x) l) e (each-moved (R _) d (h .0)), pairs-moved R back d (h .1))
-  pairs-moved R back (List·Permᴰ·swap {a = a} {b = b} {a′ = c} {b′ = d} {l = l} e f) h =
-      ((subst (λ (x : A). R x d) f (subst (R b) e (back a b (h .0 .0))), subst (λ (x : A). Each (R x) l) f (h .1 .0)), (subst (λ (x : A). Each (R x) l) e (h .0 .1), h .1 .1))
+  pairs-moved R back (List·Permᴰ·swap {a = a} {b = b} {a′ = c} {b′ = d} {l = l} e f) h = (
+    (subst (λ (x : A). R x d) f (subst (R b) e (back a b (h .0 .0))), subst (λ (x : A). Each (R x) l) f (h .1 .0)),
+    (subst (λ (x : A). Each (R x) l) e (h .0 .1), h .1 .1),
+  )
   pairs-moved R back (List·Permᴰ·trans d f) h = pairs-moved R back f (pairs-moved R back d h)
 
   pub many-moved : (test : A → Bool) {xs ys : List A} → List·Permᴰ xs ys → many test xs ≡ many test ys

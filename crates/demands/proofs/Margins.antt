@@ -1,53 +1,31 @@
 -- DEMAND 3, second half: what `decision_margin` answers is exact. Assumed: unique ids.
-use Prim.Native.Nat.{ℕ, _<_, zero-le}
-use mathlib.Core.Path.{_≡_, refl, sym, ap, _∙_}
-use mathlib.Core.Bool.{false, false≢true}
-use mathlib.Core.Logic.{_⊎_, inl, inr}
-use mathlib.Core.List.{List, [], _∷_, List·Memᴰ, List·Memᴰ·head, List·Memᴰ·tail}
-use mathlib.Core.Option.{some}
-use native.Mathlib.Nat.{eq-zero-or-pos}
-use native.Mathlib.Omega.{arith}
-use borrow.Author.Tests.{eq-eqb, ne-eqb}
-use Rattle.rules.specs.Limits.{ppm, maxU32, maxPriceScale}
-use Rattle.rules.specs.Choice.{equal}
-use Rattle.rules.specs.Records.{Listed, listedOf}
-use Rattle.rules.specs.Refused.{noFault, bankFaults}
-use Rattle.rules.specs.Numbers.{isRejection}
-use Rattle.rules.specs.Decide.{stoppedBy, decisionOf}
-use Rattle.rules.specs.Listing.{firstListed}
-use Rattle.rules.specs.Halving.{Lowest, Highest, searchOf, searchAfterFarEnd}
-use Rattle.rules.specs.Levers.{wins}
-use Rattle.rules.specs.Margin.{marginLevers, marginFor, marginIn, decisionMarginOf}
-use Rattle.rules.specs.declared.records.KernelInput.{KernelInput}
-use Rattle.rules.specs.declared.records.PolicySnapshot.{PolicySnapshot}
-use Rattle.demands.specs.Standing.{UniqueIds}
-use Rattle.demands.specs.Demand3.{marginQuality, marginLatency, marginPrice, marginCeiling, question, MarginExact, MarginOfChoice}
-use Rattle.demands.proofs.Lists.{each-member}
-use Rattle.demands.proofs.Selected.{chose-selects, stopped-rejects, executes}
-use Rattle.demands.proofs.Favours.{quality-ordered, latency-ordered, price-ordered, ceiling-ordered, quality-today, latency-today, price-today, ceiling-today}
-use Rattle.demands.proofs.Varied.{selects-on, turns-once, selected-today}
-use Rattle.demands.proofs.Entries.{used-sought, not-refused, Answers, answers, kept, kept-quality}
+use Rattle.rules.proofs.Kit.{ℕ, zero-le, _≡_, refl, sym, ap, false, List, [], _∷_, List·Memᴰ, List·Memᴰ·head, List·Memᴰ·tail, some, arith, eq-eqb, ne-eqb}
+use Rattle.rules.specs.{Limits.ppm, Limits.maxU32, Limits.maxPriceScale, Choice.equal, Records.Listed, Records.listedOf, Refused.noFault, Refused.bankFaults}
+use Rattle.rules.specs.{Numbers.isRejection, Decide.decisionOf, Listing.firstListed, Halving.Lowest, Halving.Highest, Halving.searchOf}
+use Rattle.rules.specs.{Halving.searchAfterFarEnd, Levers.wins, Margin.marginLevers, Margin.marginFor, Margin.marginIn, Margin.decisionMarginOf}
+use Rattle.rules.specs.{declared.records.KernelInput.KernelInput, declared.records.PolicySnapshot.PolicySnapshot}
+use Rattle.demands.specs.{Standing.UniqueIds, Demand3.marginQuality, Demand3.marginLatency, Demand3.marginPrice, Demand3.marginCeiling, Demand3.question}
+use Rattle.demands.specs.{Demand3.MarginExact, Demand3.MarginOfChoice}
+use Rattle.demands.proofs.{Lists.each-member, Selected.chose-selects, Selected.executes, Favours.quality-ordered, Favours.latency-ordered}
+use Rattle.demands.proofs.{Favours.price-ordered, Favours.ceiling-ordered, Favours.quality-today, Favours.latency-today, Favours.price-today}
+use Rattle.demands.proofs.{Favours.ceiling-today, Varied.selects-on, Varied.turns-once, Varied.selected-today, Entries.used-sought, Entries.not-refused}
+use Rattle.demands.proofs.{Entries.Answers, Entries.answers, Entries.kept, Entries.kept-quality}
 
 -- with unique ids a listed record is the first with its id
 unique-first : (ls : List Listed) (k : Listed) → UniqueIds ls → List·Memᴰ k ls → firstListed (k .model .«model_id») ls ≡ some k
 unfolding firstListed equal
-unique-first (l ∷ ls) k u (List·Memᴰ·head e) = rw (eq-eqb (l .model .«model_id») (k .model .«model_id») (ap (λ (i : Listed). i .model .«model_id») (sym e))) (ap (λ i. some i) (sym e))
+unique-first (l ∷ ls) k u (List·Memᴰ·head e) =
+    rw (eq-eqb (l .model .«model_id») (k .model .«model_id») (ap (λ (i : Listed). i .model .«model_id») (sym e))) (ap (λ i. some i) (sym e))
 unique-first (l ∷ ls) k u (List·Memᴰ·tail m) =
     rw (ne-eqb (l .model .«model_id») (k .model .«model_id») (each-member (λ (i : Listed). l .model .«model_id» ≡ i .model .«model_id» → ⊥) (u .0) m))
     (unique-first ls k (u .1) m)
 
 module _ (p : PolicySnapshot) (q : KernelInput) (ls : List Listed) (chose : isRejection (decisionOf p q ls) ≡ false) where
-  -- what is not rejected is not stopped
-  not-stopped : stoppedBy p q ≡ 0
-  not-stopped = go (eq-zero-or-pos (stoppedBy p q))
-    where
-      go : (stoppedBy p q ≡ 0) ⊎ (0 < stoppedBy p q) → stoppedBy p q ≡ 0
-      go (inl z) = z
-      go (inr h) = absurd (false≢true (sym chose ∙ stopped-rejects p q ls h))
-
   module _ (l : Listed) (first : firstListed (decisionOf p q ls .model) ls ≡ some l) where
     -- the four searches of a margin, and what they found
-    found-to-keep : let a = question p q ls (decisionOf p q ls .model) (l .model) in Answers (marginIn p q ls) a (searchOf Lowest (wins a 1) 0 (l .model .«quality_bps»)) (searchAfterFarEnd Highest (wins a 2) (l .model .«p95_latency_ms») maxU32) (searchAfterFarEnd Highest (wins a 3) ppm maxPriceScale) (searchAfterFarEnd Lowest (wins a 4) 0 (l .model .«risk_ceiling_bps»))
+    found-to-keep : let a = question p q ls (decisionOf p q ls .model) (l .model) in Answers (marginIn p q ls) a
+        (searchOf Lowest (wins a 1) 0 (l .model .«quality_bps»)) (searchAfterFarEnd Highest (wins a 2) (l .model .«p95_latency_ms») maxU32)
+        (searchAfterFarEnd Highest (wins a 3) ppm maxPriceScale) (searchAfterFarEnd Lowest (wins a 4) 0 (l .model .«risk_ceiling_bps»))
     unfolding marginIn marginFor marginLevers
     found-to-keep =
         let d = decisionOf p q ls in
@@ -69,23 +47,28 @@ module _ (p : PolicySnapshot) (q : KernelInput) (ls : List Listed) (chose : isRe
         let at = selected-today p q ls id l unique first (chose-selects id (decisionOf p q ls) chose refl) in
         record {
           answered = no-refusal;
-          quality = kept-quality (λ b. refl) (turns 1 Lowest quality-ordered (marginQuality (l .model))) (f .quality) zero-le (at 1 _ (quality-today (l .model)));
+          quality =
+              kept-quality (λ b. refl) (turns 1 Lowest quality-ordered (marginQuality (l .model))) (f .quality) zero-le (at 1 _ (quality-today (l .model)));
           latency =
               kept (λ b. refl) (turns 2 Highest latency-ordered (marginLatency (l .model))) (f .latency) (at 2 _ (latency-today (l .model)))
-              (λ h. selects-on p q ls id l unique first 2 Highest latency-ordered (l .model .«p95_latency_ms») maxU32 (omega arith) (at 2 _ (latency-today (l .model))));
+              (λ h. selects-on p q ls id l unique first 2 Highest latency-ordered (l .model .«p95_latency_ms») maxU32 (omega arith)
+              (at 2 _ (latency-today (l .model))));
           price = kept (λ b. refl) (turns 3 Highest price-ordered marginPrice) (f .price) (at 3 _ (price-today (l .model))) (λ h. absurd (omega arith));
-          ceiling = kept (λ b. refl) (turns 4 Lowest ceiling-ordered (marginCeiling (l .model))) (f .ceiling) (at 4 _ (ceiling-today (l .model))) (λ h. absurd (omega arith));
+          ceiling =
+              kept (λ b. refl) (turns 4 Lowest ceiling-ordered (marginCeiling (l .model))) (f .ceiling) (at 4 _ (ceiling-today (l .model)))
+              (λ h. absurd (omega arith));
           whole = f .whole;
         }
 
   -- Demand 3, second half. The record that is varied is the chosen one
   pub choice-exact : UniqueIds ls → MarginOfChoice p q ls (marginIn p q ls)
   choice-exact unique =
-      let (l, f) = executes p q ls not-stopped chose in
+      let (l, f) = executes p q ls chose in
       let first : firstListed (decisionOf p q ls .model) ls ≡ some l = rw (f .id) (unique-first ls l unique (f .chosen .member)) in
       record { varied = l; first = first; place = sym (f .place); exact = keep-exact l first unique }
 
 -- Demand 3, second half. THE MARGIN IS EXACT, of a bank with unique ids whose decision is no rejection
-pub decision-margin-exact : (p : PolicySnapshot) (q : KernelInput) (bank : List ℕ) → bankFaults bank ≡ [] → UniqueIds (listedOf bank) → isRejection (decisionOf p q (listedOf bank)) ≡ false → MarginOfChoice p q (listedOf bank) (decisionMarginOf p q bank)
+pub decision-margin-exact : (p : PolicySnapshot) (q : KernelInput) (bank : List ℕ) → bankFaults bank ≡ [] → UniqueIds (listedOf bank)
+    → isRejection (decisionOf p q (listedOf bank)) ≡ false → MarginOfChoice p q (listedOf bank) (decisionMarginOf p q bank)
 unfolding decisionMarginOf
 decision-margin-exact p q bank whole unique chose = rw whole (choice-exact p q (listedOf bank) chose unique)

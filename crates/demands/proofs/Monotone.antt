@@ -1,21 +1,11 @@
 -- Selection is monotone: where a record is selected, a stand-in that does as well is selected in its place. Assumes nothing.
-use Prim.Native.Nat.{ℕ}
-use mathlib.Core.Path.{_≡_, refl, subst, _∙_}
-use mathlib.Core.Bool.{Bool, true, false}
-use mathlib.Core.Logic.{_⊎_, inl, inr, ⊎-elim}
-use mathlib.Core.List.{List, _∷_, _++_, List·Memᴰ, List·Memᴰ·head, List·Memᴰ·tail, List·Memᴰ·cases-cons, List·Memᴰ·append-cases, Memᴰ·append-left, Memᴰ·append-right}
-use Rattle.rules.specs.Records.{Listed, listed}
-use Rattle.rules.specs.Verdict.{judge}
-use Rattle.rules.specs.Rank.{Candidate, candidateOf, better}
-use Rattle.rules.specs.Decide.{decisionOf}
-use Rattle.rules.specs.Levers.{selects}
-use Rattle.rules.specs.declared.records.KernelModel.{KernelModel}
-use Rattle.rules.specs.declared.records.KernelInput.{KernelInput}
-use Rattle.rules.specs.declared.records.PolicySnapshot.{PolicySnapshot}
+use Rattle.rules.proofs.Kit.{ℕ, _≡_, refl, subst, _∙_, Bool, true, false, _⊎_, inl, inr, ⊎-elim, List, _∷_, _++_, List·Memᴰ, List·Memᴰ·head, List·Memᴰ·tail}
+use Rattle.rules.proofs.Kit.{List·Memᴰ·cases-cons, List·Memᴰ·append-cases, Memᴰ·append-left, Memᴰ·append-right}
+use Rattle.rules.specs.{Records.Listed, Records.listed, Verdict.judge, Rank.Candidate, Rank.candidateOf, Rank.better, Decide.decisionOf, Levers.selects}
+use Rattle.rules.specs.{declared.records.KernelModel.KernelModel, declared.records.KernelInput.KernelInput, declared.records.PolicySnapshot.PolicySnapshot}
 use Rattle.rules.proofs.Better.{better-not-itself, neither-better, none-above}
 use Rattle.demands.specs.Standing.{Eligible, AsGood, Chosen, Lacks}
-use Rattle.demands.proofs.Lists.{each-member}
-use Rattle.demands.proofs.Selected.{selected-chosen, chosen-selected}
+use Rattle.demands.proofs.{Lists.each-member, Selected.selected-chosen, Selected.chosen-selected}
 
 -- what does not rank before x does not rank before one that x does not rank before
 still-after : (z x y : Candidate) → better z x ≡ false → better x y ≡ false → better z y ≡ false
@@ -49,7 +39,8 @@ module _ (p : PolicySnapshot) (q : KernelInput) (before after : List Listed) (pl
         first = λ k m e. go k e (among before after (listed place y) k m);
       }
     where
-      go : (k : Listed) → Eligible p q (k .model) → (k ≡ listed place y) ⊎ (List·Memᴰ k before ⊎ List·Memᴰ k after) → better (candidateOf (judge p q k)) (candidateOf (judge p q (listed place y))) ≡ false
+      go : (k : Listed) → Eligible p q (k .model) → (k ≡ listed place y) ⊎ (List·Memᴰ k before ⊎ List·Memᴰ k after)
+          → better (candidateOf (judge p q k)) (candidateOf (judge p q (listed place y))) ≡ false
       go k e (inl s) = rw s (better-not-itself (candidateOf (judge p q (listed place y))))
       go k e (inr m) =
           still-after (candidateOf (judge p q k)) (candidateOf (judge p q (listed place x))) (candidateOf (judge p q (listed place y)))
@@ -58,7 +49,8 @@ module _ (p : PolicySnapshot) (q : KernelInput) (before after : List Listed) (pl
 
   -- Demand 3. SELECTION IS MONOTONE, for any stand-in: where no other record has the id, and the id is selected with x in a place, it is
   -- selected with any y there that does as well
-  pub selection-monotone : (id : ℕ) → x .«model_id» ≡ id → Lacks id before → Lacks id after → selects id (decisionOf p q with-x) ≡ true → selects id (decisionOf p q with-y) ≡ true
+  pub selection-monotone : (id : ℕ) → x .«model_id» ≡ id → Lacks id before → Lacks id after → selects id (decisionOf p q with-x) ≡ true
+      → selects id (decisionOf p q with-y) ≡ true
   selection-monotone id same b a e =
       let (z, l, h, i) = selected-chosen p q with-x id e in
       subst (λ i. selects i (decisionOf p q with-y) ≡ true) (good .id ∙ same)

@@ -1,32 +1,19 @@
 -- DEMAND 3: how many passes the calls take. The number is the published halving's own, in every case; and it is bounded, over any list, also with
 -- repeated ids. Assumed for the bounds: latency, quality and ceiling of the model that is varied within their fields, as those of a bank of bytes are.
-use Prim.Native.Nat.{ℕ, _+_, _-_, _*_, _^_, _≤_, _<_}
-use mathlib.Core.Path.{_≡_, refl, ap, _∙_}
-use mathlib.Core.Bool.{Bool, true, false, cond}
-use mathlib.Core.List.{List, [], _∷_}
-use mathlib.Core.Option.{Option, none, some}
-use native.Mathlib.Omega.{arith}
-use borrow.Author.Tests.{ne-eqb}
-use lib.Dec.{eqb}
-use Rattle.rules.specs.Choice.{pick, equal}
-use Rattle.rules.specs.Records.{Listed, listedOf}
-use Rattle.rules.specs.Refused.{Faults, bankFaults, fault}
-use Rattle.rules.specs.Numbers.{Decision, Boundary, isRejection}
-use Rattle.rules.specs.Decide.{stoppedBy, decisionOf}
-use Rattle.rules.specs.Listing.{firstListed}
-use Rattle.rules.specs.Halving.{Lowest, Highest, passesOf}
-use Rattle.rules.specs.Levers.{Question, selects, wins, Sought, priced, noSearch, boundaryOf, boundaryRefused, boundaryUnless}
-use Rattle.rules.specs.Win.{ifOn, winLevers, winSearch, winFor, winIfListed, winIn, whatWouldWinOf}
-use Rattle.rules.specs.Margin.{marginLevers, marginIfListed, marginFor, marginIn, decisionMarginOf}
-use Rattle.rules.specs.declared.boundary.Bound.{Bound}
-use Rattle.rules.specs.declared.boundary.Bound.the-variants.{At, Nothing}
-use Rattle.rules.specs.declared.records.KernelInput.{KernelInput}
-use Rattle.rules.specs.declared.records.PolicySnapshot.{PolicySnapshot}
+use Rattle.rules.proofs.Kit.{ℕ, _+_, _-_, _*_, _^_, _≤_, _<_, _≡_, refl, ap, _∙_, Bool, true, false, cond, List, [], _∷_, Option, none, some, arith, ne-eqb}
+use Rattle.rules.proofs.Kit.{eqb}
+use Rattle.rules.specs.{Choice.pick, Choice.equal, Order.Each, Records.Listed, Records.listedOf, Refused.Faults, Refused.bankFaults, Refused.fault}
+use Rattle.rules.specs.{Refused.unless, Numbers.Decision, Numbers.Boundary, Numbers.isRejection, Decide.stoppedBy, Decide.decisionOf, Listing.firstListed}
+use Rattle.rules.specs.{Halving.Lowest, Halving.Highest, Halving.passesOf, Levers.Question, Levers.selects, Levers.wins, Levers.Sought, Levers.priced}
+use Rattle.rules.specs.{Levers.noSearch, Levers.boundaryOf, Levers.boundaryRefused, Win.ifOn, Win.winLevers, Win.winSearch, Win.winFor, Win.winIfListed}
+use Rattle.rules.specs.{Win.winIn, Win.whatWouldWinOf, Margin.marginLevers, Margin.marginIfListed, Margin.marginFor, Margin.marginIn, Margin.decisionMarginOf}
+use Rattle.rules.specs.{declared.boundary.Bound.Bound, declared.boundary.Bound.the-variants.At, declared.boundary.Bound.the-variants.Nothing}
+use Rattle.rules.specs.{declared.records.KernelInput.KernelInput, declared.records.PolicySnapshot.PolicySnapshot}
 use Rattle.rules.proofs.Halvings.{plain-passes}
-use Rattle.demands.specs.Lists.{Each}
-use Rattle.demands.specs.Demand3.{winQuality, winLatency, winPrice, winCeiling, marginQuality, marginLatency, marginPrice, marginCeiling, question, Unselected, SwitchedOn, passesWithCost, halvingIn, halvingAfterFarEnd, winPasses, marginPasses, passesToWin, passesIfListed, passesUnless, passesToWinIn, passesToWinOf, passesToKeepIn, passesToKeepOf, mostToWin, mostForMargin, mostForMarginWithin, AreBytes, Within}
-use Rattle.demands.proofs.Exact.{search-short, margin-short}
-use Rattle.demands.proofs.Widest.{bytes-narrow, first-of}
+use Rattle.demands.specs.Demand3.{winPrice, marginPrice, question, Unselected, SwitchedOn, passesWithCost, halvingIn, halvingAfterFarEnd, winPasses}
+use Rattle.demands.specs.Demand3.{marginPasses, passesToWin, passesIfListed, passesToWinIn, passesToWinOf, passesToKeepIn, passesToKeepOf, mostToWin}
+use Rattle.demands.specs.Demand3.{mostForMargin, mostForMarginWithin, AreBytes, BpsWithin}
+use Rattle.demands.proofs.{Exact.search-short, Exact.margin-short, Widest.bytes-narrow, Widest.first-of}
 
 -- ---- the passes of four levers are those of their searches
 
@@ -36,21 +23,11 @@ priced-passes a (Nothing n) = refl
 
 win-levers-passes : (a : Question) → 1 + winLevers a .passes ≡ winPasses a
 unfolding winLevers
-win-levers-passes a = λ i.
-    1
-    + (plain-passes 1 (a .model .«quality_bps») (halvingIn Lowest (wins a 1) (winQuality (a .model))) i
-    + (plain-passes 2 (a .model .«p95_latency_ms») (halvingIn Highest (wins a 2) (winLatency (a .model))) i
-    + (priced-passes a (halvingIn Highest (wins a 3) winPrice) i
-    + plain-passes 4 (a .model .«risk_ceiling_bps») (halvingIn Lowest (wins a 4) (winCeiling (a .model))) i)))
+win-levers-passes a = simp (plain-passes, priced-passes)
 
 margin-levers-passes : (a : Question) → 1 + marginLevers a .passes ≡ marginPasses a
 unfolding marginLevers
-margin-levers-passes a = λ i.
-    1
-    + (plain-passes 1 (a .model .«quality_bps») (halvingIn Lowest (wins a 1) (marginQuality (a .model))) i
-    + (plain-passes 2 (a .model .«p95_latency_ms») (halvingAfterFarEnd Highest (wins a 2) (marginLatency (a .model))) i
-    + (priced-passes a (halvingAfterFarEnd Highest (wins a 3) marginPrice) i
-    + plain-passes 4 (a .model .«risk_ceiling_bps») (halvingAfterFarEnd Lowest (wins a 4) (marginCeiling (a .model))) i)))
+margin-levers-passes a = simp (plain-passes, priced-passes)
 
 -- ---- and the calls count as many
 
@@ -75,7 +52,7 @@ for-passes a = go (eqb (stoppedBy (a .policy) (a .request)) 0) (selects (a .id) 
     go true false true false = refl
     go true false false wins = win-levers-passes a
 
-unless-passes : (fs : Faults) (b : Boundary) → boundaryUnless fs b .passes ≡ passesUnless fs (b .passes)
+unless-passes : (fs : Faults) (b : Boundary) → unless fs boundaryRefused b .passes ≡ unless fs (λ f. 0) (b .passes)
 unless-passes [] b = refl
 unless-passes (f ∷ fs) b = refl
 
@@ -109,13 +86,13 @@ module _ (p : PolicySnapshot) (q : KernelInput) (bank : List ℕ) where
   pub what-would-win-passes : (id : ℕ) → whatWouldWinOf p q bank id .passes ≡ passesToWinOf p q bank id
   unfolding whatWouldWinOf passesToWinOf
   what-would-win-passes id =
-      unless-passes (bankFaults bank) (winIn p q (listedOf bank) id) ∙ ap (passesUnless (bankFaults bank)) (win-passes p q (listedOf bank) id)
+      unless-passes (bankFaults bank) (winIn p q (listedOf bank) id) ∙ ap (unless (bankFaults bank) (λ f. 0)) (win-passes p q (listedOf bank) id)
 
   -- Demand 3. THE PASSES OF THE CALL `decision_margin` ARE THOSE OWED
   pub decision-margin-passes : decisionMarginOf p q bank .passes ≡ passesToKeepOf p q bank
   unfolding decisionMarginOf passesToKeepOf
   decision-margin-passes =
-      unless-passes (bankFaults bank) (marginIn p q (listedOf bank)) ∙ ap (passesUnless (bankFaults bank)) (keep-passes p q (listedOf bank))
+      unless-passes (bankFaults bank) (marginIn p q (listedOf bank)) ∙ ap (unless (bankFaults bank) (λ f. 0)) (keep-passes p q (listedOf bank))
 
   -- so where four levers are searched they are the halvings' own
   pub searched-passes : (id : ℕ) (l : Listed) → bankFaults bank ≡ [] → Unselected p q (listedOf bank) id l → SwitchedOn (l .model)
@@ -156,21 +133,20 @@ margin-passes-few k a h i =
     omega (arith, with-cost (halvingAfterFarEnd Highest (wins a 3) marginPrice))
 
 -- whether or not four levers are searched
+either-few : {a b n : ℕ} (t : Bool) → a ≤ n → b ≤ n → cond t a b ≤ n
+either-few true h k = h
+either-few false h k = k
+
 to-win-few : (a : Question) → a .model .«p95_latency_ms» ≤ 2 ^ 32 - 1 → passesToWin a ≤ mostToWin
 unfolding passesToWin equal
-to-win-few a h = go (eqb (stoppedBy (a .policy) (a .request)) 0) (selects (a .id) d) (eqb (a .model .enabled) 0) (win-passes-few a h)
-  where
-    d : Decision
-    d = decisionOf (a .policy) (a .request) (a .list)
-
-    go : (goesOn selected off : Bool) → winPasses a ≤ mostToWin → cond goesOn (cond selected 1 (cond off 2 (winPasses a))) 1 ≤ mostToWin
-    go false selected off n = omega arith
-    go true true off n = omega arith
-    go true false true n = omega arith
-    go true false false n = n
+to-win-few a h =
+    either-few {b = 1} (eqb (stoppedBy (a .policy) (a .request)) 0)
+    (either-few {a = 1} (selects (a .id) (decisionOf (a .policy) (a .request) (a .list))) (omega arith)
+    (either-few {a = 2} (eqb (a .model .enabled) 0) (omega arith) (win-passes-few a h)))
+    (omega arith)
 
 -- a bank that is refused is answered with no pass
-unless-few : (n : ℕ) (fs : Faults) (b : Boundary) → b .passes ≤ n → boundaryUnless fs b .passes ≤ n
+unless-few : (n : ℕ) (fs : Faults) (b : Boundary) → b .passes ≤ n → unless fs boundaryRefused b .passes ≤ n
 unless-few n [] b h = h
 unless-few n (f ∷ fs) b h = omega arith
 
@@ -185,16 +161,11 @@ module _ (p : PolicySnapshot) (q : KernelInput) (ls : List Listed) where
       → ((l : Listed) → firstListed (decisionOf p q ls .model) ls ≡ some l → (l .model .«quality_bps» < 2 ^ k) × (l .model .«risk_ceiling_bps» < 2 ^ k))
       → marginIn p q ls .passes ≤ 71 + 2 * k
   unfolding passesToKeepIn
-  kept-few k h = rw (keep-passes p q ls) (go (isRejection (decisionOf p q ls)))
-    where
-      id : ℕ
-      id = decisionOf p q ls .model
-
-      go : (rejects : Bool) → cond rejects 0 (passesIfListed marginPasses p q ls id (firstListed id ls)) ≤ 71 + 2 * k
-      go true = omega arith
-      go false =
-          listed-few (71 + 2 * k) marginPasses id (firstListed id ls)
-          (λ l e. margin-passes-few k (question p q ls id (l .model)) (h l e .0) (h l e .1))
+  kept-few k h =
+      rw (keep-passes p q ls)
+      (either-few {a = 0} (isRejection (decisionOf p q ls)) (omega arith)
+      (listed-few (71 + 2 * k) marginPasses (decisionOf p q ls .model) (firstListed (decisionOf p q ls .model) ls)
+      (λ l e. margin-passes-few k (question p q ls _ (l .model)) (h l e .0) (h l e .1))))
 
   -- Demand 3. WHAT WOULD WIN TAKES AT MOST 86 PASSES, over any list: the model asked about needs only a latency of 32 bits
   pub win-few : (id : ℕ) → ((l : Listed) → firstListed id ls ≡ some l → l .model .«p95_latency_ms» ≤ 2 ^ 32 - 1) → winIn p q ls id .passes ≤ mostToWin
@@ -204,11 +175,12 @@ module _ (p : PolicySnapshot) (q : KernelInput) (ls : List Listed) where
       (listed-few mostToWin passesToWin id (firstListed id ls) (λ l e. to-win-few (question p q ls id (l .model)) (h l e)))
 
   -- Demand 3. A MARGIN TAKES AT MOST 103 PASSES, over any list: the model that is varied needs only a quality and a ceiling of 16 bits
-  pub margin-few : ((l : Listed) → firstListed (decisionOf p q ls .model) ls ≡ some l → Within 65535 (l .model)) → marginIn p q ls .passes ≤ mostForMargin
+  pub margin-few : ((l : Listed) → firstListed (decisionOf p q ls .model) ls ≡ some l → BpsWithin 65535 (l .model)) → marginIn p q ls .passes ≤ mostForMargin
   margin-few h = kept-few 16 (λ l e. let w = h l e in ((omega arith), (omega arith)))
 
   -- Demand 3. And at most 99 where these are within 10,000
-  pub margin-few-within : ((l : Listed) → firstListed (decisionOf p q ls .model) ls ≡ some l → Within 10000 (l .model)) → marginIn p q ls .passes ≤ mostForMarginWithin
+  pub margin-few-within : ((l : Listed) → firstListed (decisionOf p q ls .model) ls ≡ some l → BpsWithin 10000 (l .model))
+      → marginIn p q ls .passes ≤ mostForMarginWithin
   margin-few-within h = kept-few 14 (λ l e. let w = h l e in ((omega arith), (omega arith)))
 
 module _ (p : PolicySnapshot) (q : KernelInput) (bank : List ℕ) where
@@ -227,7 +199,7 @@ module _ (p : PolicySnapshot) (q : KernelInput) (bank : List ℕ) where
       (margin-few p q (listedOf bank) (λ l e. first-of _ _ (listedOf bank) l (bytes-narrow bank h) e .within))
 
   -- Demand 3. AT MOST 99 PASSES, of a bank whose qualities and ceilings are within 10,000, as validation asks
-  pub decision-margin-few-within : Each (λ l. Within 10000 (l .model)) (listedOf bank) → decisionMarginOf p q bank .passes ≤ mostForMarginWithin
+  pub decision-margin-few-within : Each (λ l. BpsWithin 10000 (l .model)) (listedOf bank) → decisionMarginOf p q bank .passes ≤ mostForMarginWithin
   unfolding decisionMarginOf
   decision-margin-few-within h =
       unless-few mostForMarginWithin (bankFaults bank) (marginIn p q (listedOf bank))

@@ -1,22 +1,16 @@
 -- THE FAST AND THE SLOW PATHS AGREE: whichever of its two ways of computing the Rust takes, cost, terms and utility are those of the rules
 -- (D21). Assumed: a model is one of the catalogue, and fields are within the Rust's types. `Widths` adds that i128 holds the slow numbers.
-use Prim.Native.Nat.{ℕ, min, _*_, _/_, _^_, _<_}
-use mathlib.Core.Path.{_≡_, refl, sym, ap, _∙_}
-use mathlib.Core.Bool.{true}
-use mathlib.Core.List.{List, List·Memᴰ}
-use mathlib.Core.Option.{some, bind-eq-some-iff}
-use native.Mathlib.Nat.{lt-of-le-of-lt, mul-le-mul-left, mul-le-mul-right}
-use native.Mathlib.Omega.{arith}
-use Rattle.rules.specs.Limits.{scaledBasisPoints, maxU64}
-use Rattle.rules.specs.Price.{costOf}
-use Rattle.rules.specs.Utility.{orZero, shareOf, qualityTermOf, riskTermOf, latencyTermOf, exactUtilityOf, utilityOf}
-use Rattle.rules.specs.declared.records.KernelModel.{KernelModel}
-use Rattle.rules.specs.declared.records.KernelInput.{KernelInput}
-use Rattle.rules.specs.declared.records.PolicySnapshot.{PolicySnapshot}
-use Rattle.demands.specs.Widths.{ModelTyped, RequestTyped}
-use Rattle.demands.specs.Paths.{maxQuality, modelCostFast, modelCostReference, allCostsFit, scaledTermReference, scaledTermExact, qualityPrefix, qualityTermFast, qualityTermReference, allLatenciesFit, latencyTermFast, latencyTermReference, pricingCost, pricingQuality, pricingRisk, pricingLatency, pricingUtility, referenceUtility}
-use Rattle.demands.proofs.Laws.{at-most-largest, wrapping-mul, checked-some, is-some, kept, either-way, by-test}
-use Rattle.demands.proofs.Costs.{costs-fit, sum-fast, sum-reference}
+use Rattle.rules.proofs.Kit.{ℕ, min, _*_, _/_, _^_, _<_, _≡_, refl, sym, ap, _∙_, true, List, List·Memᴰ, some, bind-eq-some-iff, mod-eq-of-lt, lt-of-le-of-lt}
+use Rattle.rules.proofs.Kit.{mul-le-mul-left, mul-le-mul-right, arith}
+use Rattle.rules.specs.{Limits.scaledBasisPoints, Limits.maxU64, Price.costOf, Utility.orZero, Utility.shareOf, Utility.qualityTermOf, Utility.riskTermOf}
+use Rattle.rules.specs.{Utility.latencyTermOf, Utility.exactUtilityOf, Utility.utilityOf, declared.records.KernelModel.KernelModel}
+use Rattle.rules.specs.{declared.records.KernelInput.KernelInput, declared.records.PolicySnapshot.PolicySnapshot}
+use Rattle.demands.specs.{Machine.wrappingMul, Widths.ModelTyped, Widths.RequestTyped, Paths.maxQuality, Paths.modelCostFast, Paths.modelCostReference}
+use Rattle.demands.specs.{Paths.allCostsFit, Paths.scaledTermReference, Paths.scaledTermExact, Paths.qualityPrefix, Paths.qualityTermFast}
+use Rattle.demands.specs.{Paths.qualityTermReference, Paths.allLatenciesFit, Paths.latencyTermFast, Paths.latencyTermReference, Paths.pricingCost}
+use Rattle.demands.specs.{Paths.pricingQuality, Paths.pricingRisk, Paths.pricingLatency, Paths.pricingUtility, Paths.referenceUtility}
+use Rattle.demands.proofs.{Laws.at-most-largest, Laws.checked-some, Laws.is-some, Laws.kept, Laws.either-way, Laws.by-test, Costs.costs-fit}
+use Rattle.demands.proofs.{Costs.sum-fast, Costs.sum-reference}
 
 -- ---- the slow ways are the rules, always
 
@@ -50,7 +44,8 @@ scaled-paths value first second = either-way _ _ _ λ n e.
     ap (λ i. i / scaledBasisPoints) (checked-some (k * second) n both .1 ∙ ap (λ i. i * second) (checked-some (value * first) k one .1))
 
 -- a prefix that is taken is V * confidence, and 64 bits hold it times the highest quality
-prefix-fits : (ms : List KernelModel) (q : KernelInput) (prefix : ℕ) → qualityPrefix ms q ≡ some prefix → (prefix ≡ orZero (q .«business_value_microunits») * q .«confidence_bps») × (prefix * maxQuality ms < 2 ^ 64)
+prefix-fits : (ms : List KernelModel) (q : KernelInput) (prefix : ℕ) → qualityPrefix ms q ≡ some prefix
+    → (prefix ≡ orZero (q .«business_value_microunits») * q .«confidence_bps») × (prefix * maxQuality ms < 2 ^ 64)
 unfolding qualityPrefix
 prefix-fits ms q prefix e =
     let (k, product, taken) = bind-eq-some-iff _ _ .0 e in
@@ -75,11 +70,11 @@ module _ (ms : List KernelModel) (m : KernelModel) (q : KernelInput) (among : Li
 
   -- Demand 2, terms. Where a prefix is taken, the fast quality term is the rule's
   pub quality-fast : (prefix : ℕ) → qualityPrefix ms q ≡ some prefix → qualityTermFast prefix m ≡ qualityTermOf m q
-  unfolding qualityTermFast qualityTermOf shareOf
+  unfolding qualityTermFast qualityTermOf shareOf wrappingMul
   quality-fast prefix taken =
       let (exact, fits) = prefix-fits ms q prefix taken in
       let most = mul-le-mul-left prefix (at-most-largest (λ m. m .«quality_bps») among) in
-      rw (wrapping-mul prefix (m .«quality_bps») (lt-of-le-of-lt most fits), exact)
+      rw (mod-eq-of-lt (lt-of-le-of-lt most fits), exact)
 
   -- Demand 2, terms. So the fast quality term is the slow one
   pub quality-paths : (prefix : ℕ) → qualityPrefix ms q ≡ some prefix → qualityTermFast prefix m ≡ qualityTermReference m q
@@ -97,11 +92,11 @@ module _ (ms : List KernelModel) (m : KernelModel) (q : KernelInput) (among : Li
 module _ (p : PolicySnapshot) (ms : List KernelModel) (m : KernelModel) (among : List·Memᴰ m ms) where
   -- Demand 2, terms. Where the highest latency's term fits, the fast latency term is the rule's
   pub latency-fast : allLatenciesFit p ms ≡ true → latencyTermFast p m ≡ latencyTermOf p m
-  unfolding latencyTermFast latencyTermOf allLatenciesFit
+  unfolding latencyTermFast latencyTermOf allLatenciesFit wrappingMul
   latency-fast fit =
       let (n, e) = is-some _ fit in
       let most = mul-le-mul-right (p .«latency_penalty_microunits_per_ms») (at-most-largest (λ m. m .«p95_latency_ms») among) in
-      wrapping-mul _ _ (lt-of-le-of-lt most (checked-some _ n e .0))
+      mod-eq-of-lt (lt-of-le-of-lt most (checked-some _ n e .0))
 
   -- Demand 2, terms. So the fast latency term is the slow one
   pub latency-paths : allLatenciesFit p ms ≡ true → latencyTermFast p m ≡ latencyTermReference p m

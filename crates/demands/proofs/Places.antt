@@ -1,26 +1,14 @@
 -- Places: a bank's rise, and what a list's places are, those of its eligible models are. Where places differ, an eligible model stands
 -- in the ranking once, and each is better than all after it. Assumes nothing.
-use Prim.Native.Nat.{ℕ, zero, suc, _<_}
-use mathlib.Core.Path.{_≡_, refl, sym, subst, _∙_}
-use mathlib.Core.Bool.{Bool, true, false, cond}
-use mathlib.Core.Logic.{_⊎_, inl, inr}
-use mathlib.Core.List.{List, [], _∷_, List·Memᴰ, List·Memᴰ·head, List·Memᴰ·tail, List·Permᴰ, Permᴰ·symm}
-use native.Mathlib.Omega.{arith}
-use borrow.Author.Tests.{eq-eqb, ne-eqb}
-use lib.Dec.{eqb}
-use lib.ListN.{length}
-use Rattle.rules.specs.Choice.{equal}
-use Rattle.rules.specs.Records.{Listed, listedFrom, listedOf, recordsIn}
-use Rattle.rules.specs.Numbers.{whereEligible}
-use Rattle.rules.specs.Verdict.{Judged, judged}
-use Rattle.rules.specs.Rank.{Candidate, candidateOf, better, eligibles, ranking}
-use Rattle.rules.specs.declared.records.KernelInput.{KernelInput}
-use Rattle.rules.specs.declared.records.PolicySnapshot.{PolicySnapshot}
-use Rattle.rules.proofs.Better.{one-is-better}
-use Rattle.demands.specs.Lists.{Each, Pairs, Rising}
-use Rattle.demands.specs.Ranked.{Beats, InStrictOrder, judgedOf, PlacesRise, PlacesDiffer, manyAt}
-use Rattle.demands.proofs.Lists.{each-so, pairs-both, rising-different, each-member, each-moved, pairs-moved, many-none}
-use Rattle.demands.proofs.Ranking.{ranking-in-order, ranking-permutes, ranking-counts}
+use Rattle.rules.proofs.Kit.{ℕ, zero, suc, _<_, _≡_, refl, sym, subst, _∙_, Bool, true, false, cond, _⊎_, inl, inr, List, [], _∷_, List·Memᴰ, List·Memᴰ·head}
+use Rattle.rules.proofs.Kit.{List·Memᴰ·tail, List·Permᴰ, Permᴰ·symm, arith, eq-eqb, ne-eqb, eqb, length}
+use Rattle.rules.specs.{Choice.equal, Order.Each, Order.Pairs, Records.Listed, Records.listedFrom, Records.listedOf, Records.recordsIn, Numbers.whereEligible}
+use Rattle.rules.specs.{Verdict.Judged, Verdict.judged, Rank.Candidate, Rank.candidateOf, Rank.better, Rank.eligibles, Rank.ranking}
+use Rattle.rules.specs.{declared.records.KernelInput.KernelInput, declared.records.PolicySnapshot.PolicySnapshot}
+use Rattle.rules.proofs.{Sorted.each-so, Sorted.each-moved, Better.one-is-better, Better.ranking-in-order, Better.judged-each, Better.eligibles-each}
+use Rattle.demands.specs.{Lists.Rising, Ranked.Beats, Ranked.InStrictOrder, Ranked.judgedOf, Ranked.PlacesRise, Ranked.PlacesDiffer, Ranked.manyAt}
+use Rattle.demands.proofs.{Lists.pairs-both, Lists.rising-different, Lists.each-member, Lists.pairs-moved, Lists.many-none, Ranking.ranking-permutes}
+use Rattle.demands.proofs.{Ranking.ranking-counts}
 
 -- ---- the places of a bank
 
@@ -39,29 +27,19 @@ bank-rising bank = rising-from bank 0 (recordsIn (length bank))
 
 -- ---- judging a record leaves its place, and so does keeping the eligible ones
 
-judged-each : (p : PolicySnapshot) (q : KernelInput) (P : ℕ → Type 0) (ls : List Listed) → Each (λ l. P (l .place)) ls → Each (λ j. P (j .listed .place)) (judged p q ls)
-judged-each p q P [] h = tt
-judged-each p q P (l ∷ ls) h = (h .0, judged-each p q P ls (h .1))
-
-judged-pairs : (p : PolicySnapshot) (q : KernelInput) (R : ℕ → ℕ → Type 0) (ls : List Listed) → Pairs (λ a b. R (a .place) (b .place)) ls → Pairs (λ a b. R (a .listed .place) (b .listed .place)) (judged p q ls)
+judged-pairs : (p : PolicySnapshot) (q : KernelInput) (R : ℕ → ℕ → Type 0) (ls : List Listed) → Pairs (λ a b. R (a .place) (b .place)) ls
+    → Pairs (λ a b. R (a .listed .place) (b .listed .place)) (judged p q ls)
 judged-pairs p q R [] h = tt
 judged-pairs p q R (l ∷ ls) h = (judged-each p q (R (l .place)) ls (h .0), judged-pairs p q R ls (h .1))
 
-eligibles-each : (P : ℕ → Type 0) (js : List Judged) → Each (λ j. P (j .listed .place)) js → Each (λ c. P (c .place)) (eligibles js)
-unfolding equal
-eligibles-each P [] h = tt
-eligibles-each P (j ∷ js) h = go (eqb (j .verdict .verdict) 4) (eligibles-each P js (h .1))
-  where
-    go : (t : Bool) → Each (λ c. P (c .place)) (eligibles js) → Each (λ c. P (c .place)) (cond t (candidateOf j ∷ eligibles js) (eligibles js))
-    go true r = (h .0, r)
-    go false r = r
-
-eligibles-pairs : (R : ℕ → ℕ → Type 0) (js : List Judged) → Pairs (λ a b. R (a .listed .place) (b .listed .place)) js → Pairs (λ a b. R (a .place) (b .place)) (eligibles js)
+eligibles-pairs : (R : ℕ → ℕ → Type 0) (js : List Judged) → Pairs (λ a b. R (a .listed .place) (b .listed .place)) js
+    → Pairs (λ a b. R (a .place) (b .place)) (eligibles js)
 unfolding equal
 eligibles-pairs R [] h = tt
-eligibles-pairs R (j ∷ js) h = go (eqb (j .verdict .verdict) 4) (eligibles-pairs R js (h .1))
+eligibles-pairs R (j ∷ js) h = go (eqb (j .verdict .kind) 4) (eligibles-pairs R js (h .1))
   where
-    go : (t : Bool) → Pairs (λ a b. R (a .place) (b .place)) (eligibles js) → Pairs (λ a b. R (a .place) (b .place)) (cond t (candidateOf j ∷ eligibles js) (eligibles js))
+    go : (t : Bool) → Pairs (λ a b. R (a .place) (b .place)) (eligibles js)
+        → Pairs (λ a b. R (a .place) (b .place)) (cond t (candidateOf j ∷ eligibles js) (eligibles js))
     go true r = (eligibles-each (R (j .listed .place)) js (h .0), r)
     go false r = r
 
@@ -81,7 +59,7 @@ module _ (x : Judged) (xs : List Judged) (k : ℕ) where
   -- a record at another place counts for nothing
   not-there : (x .listed .place ≡ k → ⊥) → manyAt k (eligibles (x ∷ xs)) ≡ manyAt k (eligibles xs)
   unfolding equal
-  not-there d = go (eqb (x .verdict .verdict) 4)
+  not-there d = go (eqb (x .verdict .kind) 4)
     where
       go : (t : Bool) → manyAt k (cond t (candidateOf x ∷ eligibles xs) (eligibles xs)) ≡ manyAt k (eligibles xs)
       go true = rw (ne-eqb (x .listed .place) k d)
@@ -90,7 +68,7 @@ module _ (x : Judged) (xs : List Judged) (k : ℕ) where
   -- a record at this place counts once, where it is eligible and no other is there
   there-once : x .listed .place ≡ k → manyAt k (eligibles xs) ≡ 0 → manyAt k (eligibles (x ∷ xs)) ≡ whereEligible (x .verdict) 1 0
   unfolding equal
-  there-once e z = go (eqb (x .verdict .verdict) 4)
+  there-once e z = go (eqb (x .verdict .kind) 4)
     where
       go : (t : Bool) → manyAt k (cond t (candidateOf x ∷ eligibles xs) (eligibles xs)) ≡ cond t 1 0
       go true = rw (eq-eqb (x .listed .place) k e, z)

@@ -1,25 +1,11 @@
 -- What a decision selects: the id of the record that is chosen. A rejection selects none. Assumes nothing.
-use Prim.Native.Nat.{ℕ, _<_}
-use mathlib.Core.Path.{_≡_, refl, sym, ap, _∙_}
-use mathlib.Core.Bool.{Bool, true, false, cond, not, _&&_, false≢true}
-use mathlib.Core.Logic.{_⊎_, inl, inr}
-use mathlib.Core.List.{List, [], _∷_}
-use native.Mathlib.Nat.{eq-zero-or-pos}
-use borrow.Author.Tests.{eqb-true, eq-eqb}
-use lib.Dec.{eqb}
-use Rattle.rules.specs.Choice.{equal}
-use Rattle.rules.specs.Records.{Listed}
-use Rattle.rules.specs.Numbers.{Decision, isRejection}
-use Rattle.rules.specs.Verdict.{judge, judged}
-use Rattle.rules.specs.Rank.{Candidate, candidateOf, ranking}
-use Rattle.rules.specs.Decide.{stoppedBy, rejection, executedAs, chosen, decidedOf, decisionOf}
-use Rattle.rules.specs.Levers.{selects}
-use Rattle.rules.specs.declared.records.KernelInput.{KernelInput}
-use Rattle.rules.specs.declared.records.PolicySnapshot.{PolicySnapshot}
-use Rattle.rules.proofs.Choices.{below-yes}
+use Rattle.rules.proofs.Kit.{ℕ, _≡_, refl, sym, ap, _∙_, Bool, true, false, cond, not, _&&_, false≢true, List, [], _∷_, eqb-true, eq-eqb, eqb}
+use Rattle.rules.specs.{Choice.equal, Records.Listed, Numbers.Decision, Numbers.isRejection, Verdict.judge, Verdict.judged, Rank.Candidate, Rank.candidateOf}
+use Rattle.rules.specs.{Rank.ranking, Decide.stoppedBy, Decide.rejection, Decide.executedAs, Decide.chosen, Decide.decisionOf, Levers.selects}
+use Rattle.rules.specs.{declared.records.KernelInput.KernelInput, declared.records.PolicySnapshot.PolicySnapshot}
+use Rattle.rules.proofs.Stopped.{not-stopped}
 use Rattle.demands.specs.Standing.{Chosen}
-use Rattle.demands.proofs.Decision.{chosen-is, decided-by-first-two, rejected-where-none}
-use Rattle.demands.proofs.Firsts.{chosen-first, first-chosen}
+use Rattle.demands.proofs.{Decision.chosen-is, Decision.decided-by-first-two, Decision.rejected-where-none, Firsts.chosen-first, Firsts.first-chosen}
 
 -- ---- what a decision selects
 
@@ -56,20 +42,18 @@ module _ (p : PolicySnapshot) (q : KernelInput) where
       go false = refl
 
   module _ (ls : List Listed) where
-    -- a request that a limit stops is rejected, whatever is listed
-    pub stopped-rejects : 0 < stoppedBy p q → isRejection (decisionOf p q ls) ≡ true
-    unfolding decisionOf
-    stopped-rejects h = rw (below-yes 0 (stoppedBy p q) (rejection p q (stoppedBy p q) 0) (decidedOf p q (judged p q ls)) h) (rejection-is (stoppedBy p q) 0)
-
     -- a decision that is no rejection is for a chosen record, with its id and place
     pub record For (l : Listed) : Type 0 where
       pub chosen : Chosen p q ls l
       pub id : decisionOf p q ls .model ≡ l .model .«model_id»
       pub place : decisionOf p q ls .place ≡ l .place
 
-    pub executes : stoppedBy p q ≡ 0 → isRejection (decisionOf p q ls) ≡ false → (l : Listed) × For l
-    executes z e = go (ranking (judged p q ls)) refl
+    pub executes : isRejection (decisionOf p q ls) ≡ false → (l : Listed) × For l
+    executes e = go (ranking (judged p q ls)) refl
       where
+        z : stoppedBy p q ≡ 0
+        z = not-stopped p q ls e
+
         go : (cs : List Candidate) → ranking (judged p q ls) ≡ cs → (l : Listed) × For l
         go [] r = absurd (false≢true (sym e ∙ ap isRejection (rejected-where-none p q ls z r) ∙ rejection-is _ _))
         go (c ∷ rest) r =
@@ -79,14 +63,10 @@ module _ (p : PolicySnapshot) (q : KernelInput) where
 
     -- so what is selected is the id of a chosen record
     pub selected-chosen : (id : ℕ) → selects id (decisionOf p q ls) ≡ true → (stoppedBy p q ≡ 0) × (l : Listed) × Chosen p q ls l × (l .model .«model_id» ≡ id)
-    selected-chosen id e = go (eq-zero-or-pos (stoppedBy p q))
-      where
-        go : (stoppedBy p q ≡ 0) ⊎ (0 < stoppedBy p q) → (stoppedBy p q ≡ 0) × (l : Listed) × Chosen p q ls l × (l .model .«model_id» ≡ id)
-        go (inl z) =
-            let (a, b) = selects-chose id (decisionOf p q ls) e in
-            let (l, f) = executes z a in
-            (z, l, f .chosen, sym (f .id) ∙ b)
-        go (inr h) = absurd (false≢true (sym (rejection-selects-none id (decisionOf p q ls) (stopped-rejects h)) ∙ e))
+    selected-chosen id e =
+        let (a, b) = selects-chose id (decisionOf p q ls) e in
+        let (l, f) = executes a in
+        (not-stopped p q ls a, l, f .chosen, sym (f .id) ∙ b)
 
     -- and the id of a chosen record is selected
     pub chosen-selected : (l : Listed) → stoppedBy p q ≡ 0 → Chosen p q ls l → selects (l .model .«model_id») (decisionOf p q ls) ≡ true

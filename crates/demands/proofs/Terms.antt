@@ -1,15 +1,9 @@
 -- What cost, scaled price and the terms of a utility do where prices, latency or quality move. No other law of demand 3 opens them.
 -- Assumes nothing.
-use Prim.Native.Nat.{ℕ, _*_, _≤_}
-use native.Mathlib.Nat.{mul-le-mul-left, mul-le-mul-right}
-use native.Mathlib.Omega.{arith}
-use lib.IntN.{pos, _-ℤ_}
-use Rattle.rules.specs.Limits.{ppm}
-use Rattle.rules.specs.Price.{billed, costOf, scaledPrice}
-use Rattle.rules.specs.Utility.{orZero, shareOf, qualityTermOf, riskTermOf, latencyTermOf, exactUtilityOf, utilityOf}
-use Rattle.rules.specs.declared.records.KernelModel.{KernelModel}
-use Rattle.rules.specs.declared.records.KernelInput.{KernelInput}
-use Rattle.rules.specs.declared.records.PolicySnapshot.{PolicySnapshot}
+use Rattle.rules.proofs.Kit.{ℕ, _*_, _≤_, mul-le-mul-left, mul-le-mul-right, arith, pos, _-ℤ_}
+use Rattle.rules.specs.{Limits.ppm, Price.billed, Price.costOf, Price.scaledPrice, Utility.orZero, Utility.shareOf, Utility.qualityTermOf, Utility.riskTermOf}
+use Rattle.rules.specs.{Utility.latencyTermOf, Utility.exactUtilityOf, Utility.utilityOf, declared.records.KernelModel.KernelModel}
+use Rattle.rules.specs.{declared.records.KernelInput.KernelInput, declared.records.PolicySnapshot.PolicySnapshot}
 use Rattle.demands.specs.Standing.{Favours}
 use Rattle.demands.proofs.Integers.{AtMost, less-taken, held-up}
 

@@ -1,27 +1,13 @@
 -- DEMAND 3 where no lever is searched: a model that is off, a request that is stopped, an id that is selected; and rejections, which select
 -- no id at any setting. Assumes nothing: ids may repeat.
-use Prim.Native.Nat.{ℕ, _<_}
-use mathlib.Core.Path.{_≡_, refl, sym, ap, subst, _∙_}
-use mathlib.Core.Bool.{Bool, true, false, false≢true}
-use mathlib.Core.Logic.{_⊎_, inl, inr}
-use mathlib.Core.List.{List, []}
-use mathlib.Core.Option.{some}
-use native.Mathlib.Omega.{arith}
-use borrow.Author.Tests.{ne-eqb}
-use lib.ListN.{length}
-use Rattle.rules.specs.Records.{Listed, listedOf}
-use Rattle.rules.specs.Refused.{bankFaults}
-use Rattle.rules.specs.Numbers.{isRejection}
-use Rattle.rules.specs.Decide.{stoppedBy, decisionOf}
-use Rattle.rules.specs.Listing.{firstListed}
-use Rattle.rules.specs.Levers.{Question, selects, decisionAt, wins, boundaryOf}
-use Rattle.rules.specs.Win.{ifOn, winSearch, winFor, winIn, whatWouldWinOf}
-use Rattle.rules.specs.declared.records.KernelInput.{KernelInput}
-use Rattle.rules.specs.declared.records.PolicySnapshot.{PolicySnapshot}
-use Rattle.rules.specs.Printed.{entriesOf}
+use Rattle.rules.proofs.Kit.{ℕ, _<_, _≡_, refl, sym, ap, subst, _∙_, Bool, true, false, false≢true, _⊎_, inl, inr, List, [], some, arith, ne-eqb, length}
+use Rattle.rules.specs.{Records.Listed, Records.listedOf, Refused.bankFaults, Numbers.isRejection, Decide.stoppedBy, Decide.decisionOf, Listing.firstListed}
+use Rattle.rules.specs.{Levers.Question, Levers.selects, Levers.decisionAt, Levers.wins, Levers.boundaryOf, Win.ifOn, Win.winSearch, Win.winFor, Win.winIn}
+use Rattle.rules.specs.{Win.whatWouldWinOf, declared.records.KernelInput.KernelInput, declared.records.PolicySnapshot.PolicySnapshot, Printed.entriesOf}
+use Rattle.rules.proofs.Stopped.{stopped-rejects}
 use Rattle.demands.specs.Demand3.{question, Unselected, OffExact}
-use Rattle.demands.proofs.Selected.{rejection-selects-none, selects-chose, stopped-rejects, selected-chosen}
-use Rattle.demands.proofs.Winning.{answered-win, used-searched, no-refusal}
+use Rattle.demands.proofs.{Selected.rejection-selects-none, Selected.selects-chose, Selected.selected-chosen, Winning.answered-win}
+use Rattle.demands.proofs.{Winning.used-searched, Winning.no-refusal}
 
 -- ---- rejections
 
@@ -31,7 +17,8 @@ unfolding wins
 rejected-at-setting a lever v e = rejection-selects-none (a .id) (decisionAt a lever v) e
 
 -- Demand 3. A setting that selects the id decides for it, and is no rejection
-pub selected-at-setting : (a : Question) (lever v : ℕ) → wins a lever v ≡ true → (isRejection (decisionAt a lever v) ≡ false) × (decisionAt a lever v .model ≡ a .id)
+pub selected-at-setting : (a : Question) (lever v : ℕ) → wins a lever v ≡ true
+    → (isRejection (decisionAt a lever v) ≡ false) × (decisionAt a lever v .model ≡ a .id)
 unfolding wins
 selected-at-setting a lever v e = selects-chose (a .id) (decisionAt a lever v) e
 
@@ -62,7 +49,8 @@ module _ (p : PolicySnapshot) (q : KernelInput) (ls : List Listed) (id : ℕ) (l
   pub off-exact : OffExact (winIn p q ls id) (question p q ls id (l .model))
   off-exact = go (wins (question p q ls id (l .model)) 5 1) refl off-used
     where
-      go : (t : Bool) → wins (question p q ls id (l .model)) 5 1 ≡ t → entriesOf (winIn p q ls id) ≡ ifOn t .entries → OffExact (winIn p q ls id) (question p q ls id (l .model))
+      go : (t : Bool) → wins (question p q ls id (l .model)) 5 1 ≡ t → entriesOf (winIn p q ls id) ≡ ifOn t .entries
+          → OffExact (winIn p q ls id) (question p q ls id (l .model))
       go true w k =
           record {
             answered = no-refusal p q ls id l u;
@@ -87,7 +75,8 @@ unsearched-empty p q bank id l whole first (inl h) = ap entriesOf (answered-win 
 unsearched-empty p q bank id l whole first (inr e) = ap entriesOf (answered-win p q bank id whole) ∙ selected-empty p q (listedOf bank) id l first e
 
 -- Demand 3. SWITCHED OFF: enabled is listed exactly if switching it on selects the id
-pub switched-off-exact : (p : PolicySnapshot) (q : KernelInput) (bank : List ℕ) (id : ℕ) (l : Listed) → bankFaults bank ≡ [] → Unselected p q (listedOf bank) id l → l .model .enabled ≡ 0 → OffExact (whatWouldWinOf p q bank id) (question p q (listedOf bank) id (l .model))
+pub switched-off-exact : (p : PolicySnapshot) (q : KernelInput) (bank : List ℕ) (id : ℕ) (l : Listed) → bankFaults bank ≡ []
+    → Unselected p q (listedOf bank) id l → l .model .enabled ≡ 0 → OffExact (whatWouldWinOf p q bank id) (question p q (listedOf bank) id (l .model))
 switched-off-exact p q bank id l whole u off =
     subst (λ answer. OffExact answer (question p q (listedOf bank) id (l .model))) (sym (answered-win p q bank id whole))
     (off-exact p q (listedOf bank) id l u off)

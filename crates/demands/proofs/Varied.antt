@@ -1,27 +1,13 @@
 -- A list with a stand-in for the first listed record with an id; and so, with unique ids, a lever's settings turn once. Assumes nothing.
-use Prim.Native.Nat.{ℕ}
-use mathlib.Core.Path.{_≡_, refl, sym, ap, subst, _∙_}
-use mathlib.Core.Bool.{Bool, true, false, cond}
-use mathlib.Core.List.{List, [], _∷_, _++_}
-use mathlib.Core.Option.{some, Option·some-injective, Option·none-ne-some}
-use borrow.Author.Tests.{eqb-true, eqb-false}
-use lib.Dec.{eqb}
-use Rattle.rules.specs.Choice.{equal}
-use Rattle.rules.specs.Records.{Listed, listed}
-use Rattle.rules.specs.Decide.{decisionOf}
-use Rattle.rules.specs.Listing.{firstListed}
-use Rattle.rules.specs.Halving.{Side}
-use Rattle.rules.specs.Levers.{withQuality, withLatency, withPriceScale, withCeiling, withEnabled, leverAt, selects, varied, wins, decisionAt}
-use Rattle.rules.specs.declared.records.KernelModel.{KernelModel}
-use Rattle.rules.specs.declared.records.KernelInput.{KernelInput}
-use Rattle.rules.specs.declared.records.PolicySnapshot.{PolicySnapshot}
-use Rattle.demands.specs.Lists.{Each, Pairs}
-use Rattle.demands.specs.Exact.{Range, AtOrBetter, TurnsOnce}
-use Rattle.demands.specs.Standing.{Favours, Ordered, Lacks, UniqueIds}
-use Rattle.demands.specs.Demand3.{question}
-use Rattle.demands.proofs.Lists.{each-so}
-use Rattle.demands.proofs.Favours.{as-good}
-use Rattle.demands.proofs.Monotone.{selection-monotone}
+use Rattle.rules.proofs.Kit.{ℕ, _≡_, refl, sym, ap, subst, _∙_, Bool, true, false, cond, List, [], _∷_, _++_, some, Option·some-injective, Option·none-ne-some}
+use Rattle.rules.proofs.Kit.{eqb-true, eqb-false, eqb}
+use Rattle.rules.specs.{Choice.equal, Order.Each, Order.Pairs, Records.Listed, Records.listed, Decide.decisionOf, Listing.firstListed, Halving.Side}
+use Rattle.rules.specs.{Levers.leverAt, Levers.selects, Levers.varied, Levers.wins, Levers.decisionAt, declared.records.KernelModel.KernelModel}
+use Rattle.rules.specs.{declared.records.KernelInput.KernelInput, declared.records.PolicySnapshot.PolicySnapshot}
+use Rattle.demands.specs.{Exact.Range, Exact.AtOrBetter, Exact.TurnsOnce, Standing.Favours, Standing.Ordered, Standing.Lacks, Standing.UniqueIds}
+use Rattle.demands.specs.{Demand3.question}
+use Rattle.rules.proofs.Sorted.{each-so}
+use Rattle.demands.proofs.{Favours.as-good, Monotone.selection-monotone}
 
 -- ---- the first listed record with an id splits the list
 
@@ -38,7 +24,8 @@ unfolding firstListed varied equal
 split id [] l e = absurd (Option·none-ne-some l e)
 split id (k ∷ ks) l e = go (eqb (k .model .«model_id») id) refl (λ f. split id ks l f) e
   where
-    go : (t : Bool) → eqb (k .model .«model_id») id ≡ t → (firstListed id ks ≡ some l → Split id ks l) → cond t (some k) (firstListed id ks) ≡ some l → Split id (k ∷ ks) l
+    go : (t : Bool) → eqb (k .model .«model_id») id ≡ t → (firstListed id ks ≡ some l → Split id ks l) → cond t (some k) (firstListed id ks) ≡ some l
+        → Split id (k ∷ ks) l
     go true t ih e =
         let s = Option·some-injective k l e in
         record {
@@ -72,21 +59,10 @@ lacks-after id ls l u s =
 
 -- ---- moving a lever
 
--- a lever leaves the id
-lever-id : (lever v : ℕ) (m : KernelModel) → leverAt lever v m .«model_id» ≡ m .«model_id»
-unfolding leverAt equal
-lever-id lever v m = go (eqb lever 1) (eqb lever 2) (eqb lever 3) (eqb lever 4)
-  where
-    go : (a b c d : Bool) → cond a (withQuality v m) (cond b (withLatency v m) (cond c (withPriceScale v m) (cond d (withCeiling v m) (withEnabled v m)))) .«model_id» ≡ m .«model_id»
-    go true b c d = refl
-    go false true c d = refl
-    go false false true d = refl
-    go false false false true = refl
-    go false false false false = refl
-
 module _ (p : PolicySnapshot) (q : KernelInput) (ls : List Listed) (id : ℕ) (l : Listed) (unique : UniqueIds ls) (first : firstListed id ls ≡ some l) where
   -- Demand 3. With unique ids, where an id is selected with x for its model, it is selected with any y that is nowhere less favourable
-  pub varied-monotone : (x y : KernelModel) → x .«model_id» ≡ id → Favours y x → selects id (decisionOf p q (varied id x ls)) ≡ true → selects id (decisionOf p q (varied id y ls)) ≡ true
+  pub varied-monotone : (x y : KernelModel) → x .«model_id» ≡ id → Favours y x → selects id (decisionOf p q (varied id x ls)) ≡ true
+      → selects id (decisionOf p q (varied id y ls)) ≡ true
   varied-monotone x y i f e =
       let s = split id ls l first in
       rw (s .standIn y)
@@ -97,11 +73,14 @@ module _ (p : PolicySnapshot) (q : KernelInput) (ls : List Listed) (id : ℕ) (l
   pub unvaried : varied id (l .model) ls ≡ ls
   unvaried = let s = split id ls l first in s .standIn (l .model) ∙ sym (s .whole)
 
+  -- a lever leaves the id
   own-id : (lever v : ℕ) → leverAt lever v (l .model) .«model_id» ≡ id
-  own-id lever v = lever-id lever v (l .model) ∙ split id ls l first .has
+  unfolding leverAt
+  own-id lever v = split id ls l first .has
 
   -- Demand 3. So a lever whose settings are ordered turns once: where a setting selects the id, every more favourable one does
-  pub selects-on : (lever : ℕ) (side : Side) → Ordered lever side → (u v : ℕ) → AtOrBetter side u v → wins (question p q ls id (l .model)) lever u ≡ true → wins (question p q ls id (l .model)) lever v ≡ true
+  pub selects-on : (lever : ℕ) (side : Side) → Ordered lever side → (u v : ℕ) → AtOrBetter side u v → wins (question p q ls id (l .model)) lever u ≡ true
+      → wins (question p q ls id (l .model)) lever v ≡ true
   unfolding wins decisionAt
   selects-on lever side o u v h e = varied-monotone (leverAt lever u (l .model)) (leverAt lever v (l .model)) (own-id lever u) (o (l .model) u v h) e
 
@@ -109,6 +88,7 @@ module _ (p : PolicySnapshot) (q : KernelInput) (ls : List Listed) (id : ℕ) (l
   turns-once lever side o r u v _ _ h e = selects-on lever side o u v h e
 
   -- and where the id is selected as the list stands, it is selected at a setting that is nowhere less favourable
-  pub selected-today : selects id (decisionOf p q ls) ≡ true → (lever v : ℕ) → Favours (leverAt lever v (l .model)) (l .model) → wins (question p q ls id (l .model)) lever v ≡ true
+  pub selected-today : selects id (decisionOf p q ls) ≡ true → (lever v : ℕ) → Favours (leverAt lever v (l .model)) (l .model)
+      → wins (question p q ls id (l .model)) lever v ≡ true
   unfolding wins decisionAt
   selected-today e lever v f = varied-monotone (l .model) (leverAt lever v (l .model)) (split id ls l first .has) f (rw unvaried e)

@@ -1,22 +1,9 @@
 -- The fields of a bank of bytes that set how wide a search is: latency in 32 bits, quality and ceiling in 16. Assumes nothing.
-use Prim.Native.Nat.{ℕ, zero, suc, _-_, _*_, _^_, _≤_, _<_}
-use mathlib.Core.Path.{_≡_, subst}
-use mathlib.Core.Bool.{Bool, true, false, cond}
-use mathlib.Core.List.{List, [], _∷_}
-use mathlib.Core.Option.{some, Option·some-injective, Option·none-ne-some}
-use native.Mathlib.Omega.{arith}
-use lib.Dec.{eqb}
-use lib.ListN.{length, getD, take, drop}
-use mir.Syntax.{w8}
-use mir.Val.{Fits}
-use Rattle.rules.specs.Limits.{recordBytes}
-use Rattle.rules.specs.Choice.{equal}
-use Rattle.rules.specs.Bytes.{number}
-use Rattle.rules.specs.Records.{Listed, modelOf, recordsIn, recordPart, listedFrom, listedOf}
-use Rattle.rules.specs.Listing.{firstListed}
-use Rattle.rules.specs.declared.records.KernelModel.{KernelModel}
-use Rattle.demands.specs.Lists.{Each}
-use Rattle.demands.specs.Demand3.{AreBytes, Within}
+use Rattle.rules.proofs.Kit.{ℕ, zero, suc, _-_, _*_, _^_, _≤_, _<_, _≡_, subst, Bool, true, false, cond, List, [], _∷_, some, Option·some-injective}
+use Rattle.rules.proofs.Kit.{Option·none-ne-some, arith, eqb, length, getD, take, drop, w8, Fits}
+use Rattle.rules.specs.{Limits.recordBytes, Choice.equal, Bytes.number, Order.Each, Records.Listed, Records.modelOf, Records.recordsIn, Records.recordPart}
+use Rattle.rules.specs.{Records.listedFrom, Records.listedOf, Listing.firstListed, declared.records.KernelModel.KernelModel}
+use Rattle.demands.specs.Demand3.{AreBytes, BpsWithin}
 
 -- A LENT SLICE HOLDS BYTES: what its type tells of every place
 pub lent-bytes : (s : List ℕ) → ((i : ℕ) → Fits w8 (getD s i 0)) → AreBytes s
@@ -48,7 +35,7 @@ number-small (suc n) (b ∷ s) h = omega (arith, number-small n s (h .1), h .0)
 -- A model's latency is at most 2 ^ 32 - 1, its quality and ceiling at most 65,535
 pub record Narrow (m : KernelModel) : Type 0 where
   pub latency : m .«p95_latency_ms» ≤ 2 ^ 32 - 1
-  pub within : Within 65535 m
+  pub within : BpsWithin 65535 m
 
 model-narrow : (s : List ℕ) → AreBytes s → Narrow (modelOf s)
 unfolding modelOf
@@ -60,8 +47,10 @@ model-narrow s h =
 
 narrow-from : (bank : List ℕ) (place n : ℕ) → AreBytes bank → Each (λ l. Narrow (l .model)) (listedFrom bank place n)
 narrow-from bank place zero h = tt
-narrow-from bank place (suc n) h =
-    (model-narrow (recordPart bank place) (bytes-taken recordBytes (drop (recordBytes * place) bank) (bytes-dropped (recordBytes * place) bank h)), narrow-from bank (suc place) n h)
+narrow-from bank place (suc n) h = (
+  model-narrow (recordPart bank place) (bytes-taken recordBytes (drop (recordBytes * place) bank) (bytes-dropped (recordBytes * place) bank h)),
+  narrow-from bank (suc place) n h,
+)
 
 -- Demand 3. A BANK OF BYTES IS NARROW ENOUGH: no latency above 2 ^ 32 - 1, no quality or ceiling above 65,535
 pub bytes-narrow : (bank : List ℕ) → AreBytes bank → Each (λ l. Narrow (l .model)) (listedOf bank)

@@ -1,16 +1,8 @@
 -- WHAT i128 HOLDS (demand 2): the Rust's slow products and the difference of the four terms cannot overflow, so that they are exact.
 -- Assumed: fields within the Rust's types.
-use Prim.Native.Nat.{ℕ, _+_, _*_, _^_, _≤_, _<_}
-use native.Mathlib.Nat.{lt-of-le-of-lt, lt-of-lt-of-le, min-le-left, div-le-self}
-use native.Mathlib.Omega.{arith}
-use lib.Dec.{lit<, lit≤}
-use lib.IntN.{ℤ, pos, negsuc}
-use Rattle.rules.specs.Limits.{maxU64}
-use Rattle.rules.specs.Price.{costOf}
-use Rattle.rules.specs.Utility.{orZero, shareOf, qualityTermOf, riskTermOf, latencyTermOf}
-use Rattle.rules.specs.declared.records.KernelModel.{KernelModel}
-use Rattle.rules.specs.declared.records.KernelInput.{KernelInput}
-use Rattle.rules.specs.declared.records.PolicySnapshot.{PolicySnapshot}
+use Rattle.rules.proofs.Kit.{ℕ, _+_, _*_, _^_, _≤_, _<_, lt-of-le-of-lt, lt-of-lt-of-le, min-le-left, div-le-self, arith, lit<, lit≤, ℤ, pos, negsuc}
+use Rattle.rules.specs.{Limits.maxU64, Price.costOf, Utility.orZero, Utility.shareOf, Utility.qualityTermOf, Utility.riskTermOf, Utility.latencyTermOf}
+use Rattle.rules.specs.{declared.records.KernelModel.KernelModel, declared.records.KernelInput.KernelInput, declared.records.PolicySnapshot.PolicySnapshot}
 use Rattle.demands.specs.Widths.{InI64, ModelTyped, RequestTyped, PolicyTyped}
 use Rattle.demands.proofs.Laws.{product-lt}
 
@@ -27,13 +19,15 @@ unfolding costOf
 cost-le m q = min-le-left _ _
 
 -- `scaled_term_reference`: both products, where the value is an i64 that is not negative and the shares are u16
-pub scaled-term-within-i128 : (value first second : ℕ) → value < 2 ^ 63 → first < 2 ^ 16 → second < 2 ^ 16 → (value * first < 2 ^ 127) × (value * first * second < 2 ^ 127)
+pub scaled-term-within-i128 : (value first second : ℕ) → value < 2 ^ 63 → first < 2 ^ 16 → second < 2 ^ 16
+    → (value * first < 2 ^ 127) × (value * first * second < 2 ^ 127)
 scaled-term-within-i128 value first second v a b =
     let one = product-lt 63 16 v a in
     (lt-of-lt-of-le one (lit≤ tt), lt-of-lt-of-le (product-lt 79 16 one b) (lit≤ tt))
 
 -- `Pricing::terms`: the latency term; and quality less risk, cost and latency, which stays between minus their sum and the quality term
-pub terms-within-i128 : (p : PolicySnapshot) (m : KernelModel) (q : KernelInput) → PolicyTyped p → ModelTyped m → RequestTyped q → (latencyTermOf p m < 2 ^ 127) × (qualityTermOf m q < 2 ^ 127) × (riskTermOf p q + costOf m q + latencyTermOf p m < 2 ^ 127)
+pub terms-within-i128 : (p : PolicySnapshot) (m : KernelModel) (q : KernelInput) → PolicyTyped p → ModelTyped m → RequestTyped q
+    → (latencyTermOf p m < 2 ^ 127) × (qualityTermOf m q < 2 ^ 127) × (riskTermOf p q + costOf m q + latencyTermOf p m < 2 ^ 127)
 unfolding qualityTermOf riskTermOf latencyTermOf
 terms-within-i128 p m q pt mt qt =
     let value = value-lt (q .«business_value_microunits») (qt .value) in

@@ -1,27 +1,16 @@
 -- DEMAND 3, first half: what `what_would_win` answers is exact. Assumed: unique ids.
-use Prim.Native.Nat.{ℕ}
-use mathlib.Core.Path.{_≡_, refl, sym, ap, subst, _∙_}
-use mathlib.Core.Bool.{false}
-use mathlib.Core.List.{List, []}
-use borrow.Author.Tests.{ne-eqb}
-use Rattle.rules.specs.Limits.{maxBps, ppm}
-use Rattle.rules.specs.Records.{Listed, listedOf}
-use Rattle.rules.specs.Refused.{noFault, bankFaults}
-use Rattle.rules.specs.Decide.{decisionOf}
-use Rattle.rules.specs.Halving.{Lowest, Highest, searchOf}
-use Rattle.rules.specs.Levers.{wins, boundaryOf}
-use Rattle.rules.specs.Win.{winLevers, winSearch, winFor, winIn, whatWouldWinOf}
-use Rattle.rules.specs.declared.records.KernelInput.{KernelInput}
-use Rattle.rules.specs.declared.records.PolicySnapshot.{PolicySnapshot}
-use Rattle.demands.specs.Standing.{UniqueIds}
-use Rattle.rules.specs.Printed.{entriesOf}
-use Rattle.demands.specs.Demand3.{winQuality, winLatency, winPrice, winCeiling, question, Unselected, SwitchedOn, WinExact}
-use Rattle.demands.proofs.Favours.{quality-ordered, latency-ordered, price-ordered, ceiling-ordered}
-use Rattle.demands.proofs.Varied.{turns-once}
-use Rattle.demands.proofs.Entries.{used-sought, not-refused, Answers, answers, won}
+use Rattle.rules.proofs.Kit.{ℕ, _≡_, refl, sym, ap, subst, _∙_, false, List, [], ne-eqb}
+use Rattle.rules.specs.{Limits.maxBps, Limits.ppm, Records.Listed, Records.listedOf, Refused.noFault, Refused.bankFaults, Decide.decisionOf, Halving.Lowest}
+use Rattle.rules.specs.{Halving.Highest, Halving.searchOf, Levers.wins, Levers.boundaryOf, Win.winLevers, Win.winSearch, Win.winFor, Win.winIn}
+use Rattle.rules.specs.{Win.whatWouldWinOf, declared.records.KernelInput.KernelInput, declared.records.PolicySnapshot.PolicySnapshot, Printed.entriesOf}
+use Rattle.demands.specs.{Standing.UniqueIds, Demand3.winQuality, Demand3.winLatency, Demand3.winPrice, Demand3.winCeiling, Demand3.question}
+use Rattle.demands.specs.{Demand3.Unselected, Demand3.SwitchedOn, Demand3.WinExact}
+use Rattle.demands.proofs.{Favours.quality-ordered, Favours.latency-ordered, Favours.price-ordered, Favours.ceiling-ordered, Varied.turns-once}
+use Rattle.demands.proofs.{Entries.used-sought, Entries.not-refused, Entries.Answers, Entries.answers, Entries.won}
 
 -- a bank without faults is answered over its records
-pub answered-win : (p : PolicySnapshot) (q : KernelInput) (bank : List ℕ) (id : ℕ) → bankFaults bank ≡ [] → whatWouldWinOf p q bank id ≡ winIn p q (listedOf bank) id
+pub answered-win : (p : PolicySnapshot) (q : KernelInput) (bank : List ℕ) (id : ℕ) → bankFaults bank ≡ []
+    → whatWouldWinOf p q bank id ≡ winIn p q (listedOf bank) id
 unfolding whatWouldWinOf
 answered-win p q bank id e = rw e
 
@@ -38,7 +27,11 @@ module _ (p : PolicySnapshot) (q : KernelInput) (ls : List Listed) (id : ℕ) (l
   no-refusal = rw searched (not-refused id (decisionOf p q ls) false (winSearch (question p q ls id (l .model))))
 
   -- switched on: four levers, and what they found
-  found-to-win : SwitchedOn (l .model) → let a = question p q ls id (l .model) in Answers (winIn p q ls id) a (searchOf Lowest (wins a 1) (l .model .«quality_bps») maxBps) (searchOf Highest (wins a 2) 0 (l .model .«p95_latency_ms»)) (searchOf Highest (wins a 3) 0 ppm) (searchOf Lowest (wins a 4) (l .model .«risk_ceiling_bps») maxBps)
+  found-to-win : SwitchedOn (l .model)
+      → let a =
+      question p q ls id (l .model) in Answers (winIn p q ls id) a (searchOf Lowest (wins a 1) (l .model .«quality_bps») maxBps)
+      (searchOf Highest (wins a 2) 0 (l .model .«p95_latency_ms»)) (searchOf Highest (wins a 3) 0 ppm)
+      (searchOf Lowest (wins a 4) (l .model .«risk_ceiling_bps») maxBps)
   unfolding winSearch winLevers
   found-to-win h =
       answers (winIn p q ls id) (question p q ls id (l .model)) _ _ _ _
@@ -60,7 +53,8 @@ module _ (p : PolicySnapshot) (q : KernelInput) (ls : List Listed) (id : ℕ) (l
 
 -- Demand 3, first half. WHAT WOULD WIN IS EXACT, of a bank with unique ids: for a listed, switched-on model neither selected nor stopped by a
 -- request limit
-pub what-would-win-exact : (p : PolicySnapshot) (q : KernelInput) (bank : List ℕ) (id : ℕ) (l : Listed) → bankFaults bank ≡ [] → UniqueIds (listedOf bank) → Unselected p q (listedOf bank) id l → SwitchedOn (l .model) → WinExact (whatWouldWinOf p q bank id) (question p q (listedOf bank) id (l .model))
+pub what-would-win-exact : (p : PolicySnapshot) (q : KernelInput) (bank : List ℕ) (id : ℕ) (l : Listed) → bankFaults bank ≡ [] → UniqueIds (listedOf bank)
+    → Unselected p q (listedOf bank) id l → SwitchedOn (l .model) → WinExact (whatWouldWinOf p q bank id) (question p q (listedOf bank) id (l .model))
 what-would-win-exact p q bank id l whole unique u on =
     subst (λ answer. WinExact answer (question p q (listedOf bank) id (l .model))) (sym (answered-win p q bank id whole))
     (win-exact p q (listedOf bank) id l u unique on)

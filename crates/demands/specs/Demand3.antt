@@ -6,8 +6,9 @@ use mathlib.Core.List.{List, [], _∷_, _++_}
 use mathlib.Core.Logic.{_↔_}
 use mathlib.Core.Option.{Option, none, some}
 use Rattle.rules.specs.Choice.{equal}
+use Rattle.rules.specs.Order.{Each}
 use Rattle.rules.specs.Records.{Listed, listedOf}
-use Rattle.rules.specs.Refused.{Faults, noFault, bankFaults}
+use Rattle.rules.specs.Refused.{noFault, bankFaults, unless}
 use Rattle.rules.specs.Numbers.{isRejection, Entry, Boundary}
 use Rattle.rules.specs.Decide.{stoppedBy, decisionOf}
 use Rattle.rules.specs.Listing.{firstListed}
@@ -19,7 +20,6 @@ use Rattle.rules.specs.declared.boundary.Bound.the-variants.{At, Nothing}
 use Rattle.rules.specs.declared.records.KernelModel.{KernelModel}
 use Rattle.rules.specs.declared.records.KernelInput.{KernelInput}
 use Rattle.rules.specs.declared.records.PolicySnapshot.{PolicySnapshot}
-use Rattle.demands.specs.Lists.{Each}
 use Rattle.demands.specs.Standing.{UniqueIds}
 use Rattle.demands.specs.Exact.{Range, range, BoundaryAt, Somewhere, Nowhere, Everywhere, NotEverywhere}
 
@@ -194,16 +194,12 @@ abbrev pub passesIfListed : (Question → ℕ) → PolicySnapshot → KernelInpu
 passesIfListed passes p q ls id none = 0
 passesIfListed passes p q ls id (some l) = passes (question p q ls id (l .model))
 
-abbrev pub passesUnless : Faults → ℕ → ℕ
-passesUnless [] n = n
-passesUnless (f ∷ fs) n = 0
-
 -- The passes that `what_would_win` owes, in every case: over a list, and over a bank
 unfoldable pub passesToWinIn : PolicySnapshot → KernelInput → List Listed → ℕ → ℕ
 passesToWinIn p q ls id = passesIfListed passesToWin p q ls id (firstListed id ls)
 
 unfoldable pub passesToWinOf : PolicySnapshot → KernelInput → List ℕ → ℕ → ℕ
-passesToWinOf p q bank id = passesUnless (bankFaults bank) (passesToWinIn p q (listedOf bank) id)
+passesToWinOf p q bank id = unless (bankFaults bank) (λ f. 0) (passesToWinIn p q (listedOf bank) id)
 
 -- And those that `decision_margin` owes: none where the decision is a rejection, which is refused too
 unfoldable pub passesToKeepIn : PolicySnapshot → KernelInput → List Listed → ℕ
@@ -212,7 +208,7 @@ passesToKeepIn p q ls =
     cond (isRejection d) 0 (passesIfListed marginPasses p q ls (d .model) (firstListed (d .model) ls))
 
 unfoldable pub passesToKeepOf : PolicySnapshot → KernelInput → List ℕ → ℕ
-passesToKeepOf p q bank = passesUnless (bankFaults bank) (passesToKeepIn p q (listedOf bank))
+passesToKeepOf p q bank = unless (bankFaults bank) (λ f. 0) (passesToKeepIn p q (listedOf bank))
 
 -- The most that a search for what would win takes; that a margin takes; and that one takes where quality and ceiling are within 10,000
 abbrev pub mostToWin : ℕ
@@ -229,8 +225,8 @@ abbrev pub AreBytes : List ℕ → Type 0
 AreBytes s = Each (λ b. b < 256) s
 
 -- A model whose quality and ceiling are at most some number
-abbrev pub Within : ℕ → KernelModel → Type 0
-Within most m = (m .«quality_bps» ≤ most) × (m .«risk_ceiling_bps» ≤ most)
+abbrev pub BpsWithin : ℕ → KernelModel → Type 0
+BpsWithin most m = (m .«quality_bps» ≤ most) × (m .«risk_ceiling_bps» ≤ most)
 
 -- ---- what validation gives
 
@@ -238,4 +234,4 @@ Within most m = (m .«quality_bps» ≤ most) × (m .«risk_ceiling_bps» ≤ mo
 pub record Sound (bank : List ℕ) : Type 0 where
   pub faultless : bankFaults bank ≡ []
   pub unique : UniqueIds (listedOf bank)
-  pub within : Each (λ l. Within 10000 (l .model)) (listedOf bank)
+  pub within : Each (λ l. BpsWithin 10000 (l .model)) (listedOf bank)

@@ -128,17 +128,17 @@ unfoldable pub pricingLatency : PolicySnapshot → List KernelModel → KernelMo
 pricingLatency p ms m = cond (allLatenciesFit p ms) (latencyTermFast p m) (latencyTermReference p m)
 
 -- Pricing::terms: quality less risk, cost and latency over i128, then held within i64
-abbrev pub utilityFrom : ℕ → ℕ → ℕ → ℕ → ℤ
-utilityFrom quality risk cost latency = held (pos quality -ℤ pos risk -ℤ pos cost -ℤ pos latency)
+abbrev pub utilityFromTerms : ℕ → ℕ → ℕ → ℕ → ℤ
+utilityFromTerms quality risk cost latency = held (pos quality -ℤ pos risk -ℤ pos cost -ℤ pos latency)
 
 unfoldable pub pricingUtility : PolicySnapshot → List KernelModel → KernelModel → KernelInput → ℤ
 pricingUtility p ms m q =
-    utilityFrom (pricingQuality ms m q) (pricingRisk p q) (pricingCost ms m q) (pricingLatency p ms m)
+    utilityFromTerms (pricingQuality ms m q) (pricingRisk p q) (pricingCost ms m q) (pricingLatency p ms m)
 
 -- The same by the slow ways alone
 unfoldable pub referenceUtility : PolicySnapshot → KernelModel → KernelInput → ℤ
 referenceUtility p m q =
-    utilityFrom (qualityTermReference m q)
+    utilityFromTerms (qualityTermReference m q)
     (scaledTermReference (orZero (q .«business_value_microunits»)) (q .«risk_bps») (p .«risk_penalty_multiplier_bps»))
     (modelCostReference m q)
     (latencyTermReference p m)

@@ -1,22 +1,19 @@
 -- What the theorems say of ranked candidates, of their places, of a decision for the first of them, and of a reason.
 use Prim.Native.Nat.{ℕ, _≤_, _<_}
 use mathlib.Core.Path.{_≡_}
-use mathlib.Core.Bool.{true, false}
+use mathlib.Core.Bool.{true}
 use mathlib.Core.List.{List, _∷_, _++_}
 use lib.Dec.{eqb}
+use Rattle.rules.specs.Order.{Each, Pairs}
 use Rattle.rules.specs.Records.{listedOf}
 use Rattle.rules.specs.Numbers.{Decision}
 use Rattle.rules.specs.Verdict.{Judged, judged}
 use Rattle.rules.specs.Rank.{Candidate, better}
 use Rattle.rules.specs.Count.{Weight}
-use Rattle.rules.specs.Decide.{otherId, otherWorth}
+use Rattle.rules.specs.Decide.{counterfactualId, counterfactualWorth}
 use Rattle.rules.specs.declared.records.KernelInput.{KernelInput}
 use Rattle.rules.specs.declared.records.PolicySnapshot.{PolicySnapshot}
-use Rattle.demands.specs.Lists.{Each, Pairs, Rising, Different, many}
-
--- None is better than one before it
-abbrev pub InOrder : List Candidate → Type 0
-InOrder cs = Pairs (λ a b. better b a ≡ false) cs
+use Rattle.demands.specs.Lists.{Rising, Different, many}
 
 -- One is better than another; each is better than every one after it
 abbrev pub Beats : Candidate → Candidate → Type 0
@@ -47,8 +44,8 @@ pub record DecidedFor (d : Decision) (c : Candidate) (rest : List Candidate) : T
   pub place : d .place ≡ c .place
   pub cost : d .cost ≡ c .cost
   pub utility : d .utility ≡ c .utility
-  pub other : d .other ≡ otherId rest
-  pub otherUtility : d .otherUtility ≡ otherWorth rest
+  pub counterfactual : d .counterfactual ≡ counterfactualId rest
+  pub counterfactualUtility : d .counterfactualUtility ≡ counterfactualWorth rest
 
 -- w is the last of the largest: none before it has a larger count, every one after it has a smaller one
 pub record LastLargest (w : Weight) (ws : List Weight) : Type 0 where

@@ -3,6 +3,7 @@ use Prim.Native.Nat.{ℕ, _≤_}
 use mathlib.Core.Path.{_≡_}
 use mathlib.Core.Bool.{false}
 use mathlib.Core.List.{List, List·Memᴰ}
+use Rattle.rules.specs.Order.{Each}
 use Rattle.rules.specs.Records.{Listed, listed}
 use Rattle.rules.specs.Verdict.{verdictOf, judge}
 use Rattle.rules.specs.Rank.{Candidate, candidateOf, better}
@@ -11,12 +12,12 @@ use Rattle.rules.specs.Levers.{leverAt}
 use Rattle.rules.specs.declared.records.KernelModel.{KernelModel}
 use Rattle.rules.specs.declared.records.KernelInput.{KernelInput}
 use Rattle.rules.specs.declared.records.PolicySnapshot.{PolicySnapshot}
-use Rattle.demands.specs.Lists.{Each, Different}
+use Rattle.demands.specs.Lists.{Different}
 use Rattle.demands.specs.Exact.{AtOrBetter}
 
 -- Verdict 4
 abbrev pub Eligible : PolicySnapshot → KernelInput → KernelModel → Type 0
-Eligible p q m = verdictOf p q m .verdict ≡ 4
+Eligible p q m = verdictOf p q m .kind ≡ 4
 
 -- What a model is ranked by where it stands at a place
 abbrev pub candidateAt : PolicySnapshot → KernelInput → ℕ → KernelModel → Candidate

@@ -4,4 +4,3 @@ pub mod Spelled
 pub mod Stored
 pub mod Signs
 pub mod Limbs
-pub mod Trips

@@ -1,11 +1,6 @@
 -- Numbers and the bytes that say them, for every width: how they are bounded, joined, and taken back. Assumes nothing.
-use Prim.Native.Nat.{ℕ, zero, suc, _+_, _*_, _/_, _%_, _^_, _<_}
-use mathlib.Core.List.{List, [], _∷_, _++_}
-use mathlib.Core.Path.{_≡_, refl, ap}
-use native.Mathlib.Omega.{arith}
-use native.Mathlib.Nat.{zero-add, suc-add, mul-assoc, pow-succ'}
-use lib.ListN.{length, getD, take, drop}
-use lib.Seq.{getD-drop}
+use Rattle.rules.proofs.Kit.{ℕ, zero, suc, _+_, _*_, _/_, _%_, _^_, _<_, List, [], _∷_, _++_, _≡_, refl, ap, arith, zero-add, suc-add, mul-assoc, pow-succ'}
+use Rattle.rules.proofs.Kit.{length, getD, take, drop, getD-drop}
 use Rattle.rules.specs.Bytes.{number, bytesOf}
 
 -- A list of bytes: every element is below 256
@@ -74,13 +69,6 @@ unfolding number
 number-one b = omega arith
 
 -- THE BYTES AFTER THE FIRST m SAY 256 ^ m TIMES AS MUCH
-pub number-join : (bs cs : List ℕ) → number (bs ++ cs) ≡ number bs + 256 ^ length bs * number cs
-unfolding number
-number-join [] cs = omega arith
-number-join (b ∷ bs) cs =
-    let p : 256 ^ suc (length bs) * number cs ≡ 256 * (256 ^ length bs * number cs) = rw (pow-succ', mul-assoc) in
-    omega (arith, number-join bs cs)
-
 pub bytes-join : (m k lo hi : ℕ) → lo < 256 ^ m → bytesOf (m + k) (lo + 256 ^ m * hi) ≡ bytesOf m lo ++ bytesOf k hi
 unfolding bytesOf
 bytes-join zero k lo hi h =

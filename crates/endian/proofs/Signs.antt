@@ -1,17 +1,6 @@
 -- Two's complement: the bits of a signed number by its sign, and the way back. Assumes nothing.
-use Prim.Native.Nat.{ℕ, suc, _-_, _<_, _^_}
-use mathlib.Core.Bool.{true, false}
-use mathlib.Core.Path.{_≡_, refl, sym, ap, subst, _∙_}
-use native.Mathlib.Omega.{arith}
-use native.Mathlib.Nat.{lt-trans}
-use lib.Dec.{T, leb·zero, lit<}
-use lib.IntN.{ℤ, pos, negsuc, natAbs}
-use lib.Signed.{leZ, nonNeg}
-use mir.Syntax.{w64, w128}
-use mir.Val.{toZ, ofZ, SFits}
-use mir.ValLaws.{toZ-pos, toZ-ofZ, ofZ-toZ}
-use Rattle.rules.specs.Bytes.{number, bytesOf}
-use Rattle.endian.proofs.Numbers.{number-bytes}
+use Rattle.rules.proofs.Kit.{ℕ, suc, _-_, _<_, _^_, true, false, _≡_, refl, sym, ap, subst, _∙_, arith, T, leb·zero, ℤ, pos, negsuc, natAbs, leZ, nonNeg, w64}
+use Rattle.rules.proofs.Kit.{toZ, ofZ, SFits, toZ-pos, toZ-ofZ, ofZ-toZ}
 
 -- A SIGNED NUMBER COMES BACK FROM ITS 64 BITS, AND 64 BITS FROM THEIR SIGNED NUMBER
 pub signed-bits : (z : ℤ) → SFits w64 z → toZ w64 (ofZ w64 z) ≡ z
@@ -19,13 +8,6 @@ signed-bits z h = toZ-ofZ w64 z h
 
 pub bits-signed : (n : ℕ) → n < 2 ^ 64 → ofZ w64 (toZ w64 n) ≡ n
 bits-signed n h = ofZ-toZ w64 n (record { fits = h })
-
--- A TERM, which is never below 0, HAS IN 16 BYTES OF TWO'S COMPLEMENT THE BYTES OF ITS VALUE, and they say it again
-pub term-bytes : (n : ℕ) → bytesOf 16 (ofZ w128 (pos n)) ≡ bytesOf 16 n
-term-bytes n = refl
-
-pub term-back : (n : ℕ) → n < 2 ^ 127 → toZ w128 (number (bytesOf 16 n)) ≡ pos n
-term-back n h = rw (number-bytes 16 n (lt-trans h (lit< tt))) (toZ-pos w128 n h)
 
 -- an integer that is not below 0, and its size, which fits
 pub record Up (z : ℤ) (n : ℕ) : Type 0 where

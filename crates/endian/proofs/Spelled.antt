@@ -1,12 +1,5 @@
 -- The bytes that code reads one by one are those of the rule's part. Assumes nothing.
-use Prim.Native.Nat.{ℕ, zero, suc, _+_, _≤_, _<_}
-use mathlib.Core.List.{List, [], _∷_}
-use mathlib.Core.Path.{_≡_, refl, sym, ap, _∙_}
-use native.Mathlib.Omega.{arith}
-use native.Mathlib.Nat.{add-suc}
-use native.Mathlib.Numerals.{add-one}
-use lib.ListN.{length, getD, take, drop}
-use lib.Seq.{drop-cons}
+use Rattle.rules.proofs.Kit.{ℕ, zero, suc, _+_, _≤_, _<_, List, [], _∷_, _≡_, refl, sym, ap, _∙_, arith, add-suc, add-one, length, getD, take, drop, drop-cons}
 use Rattle.rules.specs.Bytes.{number}
 use Rattle.endian.proofs.Numbers.{number-one}
 

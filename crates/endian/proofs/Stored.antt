@@ -1,12 +1,6 @@
 -- Bytes stored one by one make the rule's patched list, and patches join. Assumes nothing.
-use Prim.Native.Nat.{ℕ, suc, _+_, _≤_, _<_}
-use mathlib.Core.List.{List, [], _∷_, _++_, append-assoc}
-use mathlib.Core.Path.{_≡_, refl, ap, _∙_}
-use native.Mathlib.Omega.{arith}
-use native.Mathlib.Nat.{add-suc, add-assoc}
-use native.Mathlib.Numerals.{add-one}
-use lib.ListN.{length, take, drop, set, length-append, length-take, length-drop}
-use lib.Seq.{sets, sets-eq, take-at, drop-append-add, drop-drop}
+use Rattle.rules.proofs.Kit.{ℕ, suc, _+_, _≤_, _<_, List, [], _∷_, _++_, append-assoc, _≡_, refl, ap, _∙_, arith, add-suc, add-assoc, add-one, length, take}
+use Rattle.rules.proofs.Kit.{drop, set, length-append, length-take, length-drop, sets, sets-eq, take-at, drop-append-add, drop-drop}
 use Rattle.rules.specs.Bytes.{bytesOf}
 use Rattle.endian.specs.Put.{patched}
 use Rattle.endian.proofs.Numbers.{one-byte}

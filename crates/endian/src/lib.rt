@@ -6,7 +6,7 @@ ghost use mathlib.Core.List.{[], _∷_};
 ghost use lib.ListN.{length};
 ghost use mir.Syntax.{w64};
 ghost use mir.Val.{toZ, ofZ};
-ghost use Rattle.rules.specs.Bytes.{number, bytesOf, field, valueOf};
+ghost use Rattle.rules.specs.Bytes.{number, bytesOf, numberAt};
 ghost use Rattle.rules.specs.Wide.{val};
 ghost use Rattle.endian.specs.Put.{patched};
 use rules::Wide;
@@ -47,7 +47,7 @@ fn of_eight(a: u8, b: u8, c: u8, d: u8, e: u8, f: u8, g: u8, h: u8) -> u64
 // The number of two bytes at a position.
 pub fn u16_at(s: &[u8], at: usize) -> u16
     requires { ⌜ at + 2 ≤ length (now s) ⌝ }
-    ensures { λ r. ⌜ r ≡ valueOf (now (s .entry)) (field at 2) ⌝ }
+    ensures { λ r. ⌜ r ≡ numberAt (now (s .entry)) at 2 ⌝ }
 {
     of_two(s[at], s[at + 1])
 }
@@ -55,7 +55,7 @@ pub fn u16_at(s: &[u8], at: usize) -> u16
 // The number of four bytes at a position.
 pub fn u32_at(s: &[u8], at: usize) -> u32
     requires { ⌜ at + 4 ≤ length (now s) ⌝ }
-    ensures { λ r. ⌜ r ≡ valueOf (now (s .entry)) (field at 4) ⌝ }
+    ensures { λ r. ⌜ r ≡ numberAt (now (s .entry)) at 4 ⌝ }
 {
     of_four(s[at], s[at + 1], s[at + 2], s[at + 3])
 }
@@ -63,7 +63,7 @@ pub fn u32_at(s: &[u8], at: usize) -> u32
 // The number of eight bytes at a position.
 pub fn u64_at(s: &[u8], at: usize) -> u64
     requires { ⌜ at + 8 ≤ length (now s) ⌝ }
-    ensures { λ r. ⌜ r ≡ valueOf (now (s .entry)) (field at 8) ⌝ }
+    ensures { λ r. ⌜ r ≡ numberAt (now (s .entry)) at 8 ⌝ }
 {
     of_eight(
         s[at],
@@ -144,7 +144,7 @@ pub fn signed(x: u64) -> i64
 }
 
 // The 64 bits that say a signed number.
-pub fn bits(x: i64) -> u64
+pub fn signed_bits(x: i64) -> u64
     ensures { λ r. ⌜ r ≡ ofZ w64 x ⌝ }
 {
     if 0 <= x {

@@ -1,8 +1,6 @@
--- Laws of the explanation: what its entries tell, where they stand, and how many are eligible.
-pub mod Verdicts
+-- Laws of the explanation: where its entries stand, and what refuses it.
 pub mod Entries
 pub mod Stopped
 pub mod Rooms
 pub mod Walk
-pub mod Eligible
 pub mod Answers

@@ -1,14 +1,6 @@
 -- The eligible entries of a list, one after the other. Assumes nothing.
-use Prim.Native.Nat.{ℕ, suc, _+_, _-_, _*_, _/_, _<_, _≤_}
-use mathlib.Core.Path.{_≡_, sym, _∙_}
-use mathlib.Core.List.{List}
-use mathlib.Core.Option.{none, some}
-use native.Mathlib.Omega.{arith}
-use native.Mathlib.Numerals.{add-one}
-use lib.ListN.{length, getD}
-use lib.Seq.{drop-drop}
-use Rattle.rules.specs.Choice.{equal}
-use Rattle.rules.specs.Explain.{verdictAt, eligibleFrom, nextEligibleOf}
+use Rattle.rules.proofs.Kit.{ℕ, suc, _+_, _-_, _*_, _/_, _<_, _≤_, _≡_, sym, _∙_, List, none, some, arith, add-one, length, getD, drop-drop}
+use Rattle.rules.specs.{Choice.equal, Explain.verdictAt, Explain.eligibleFrom, Explain.nextEligibleOf}
 use Rattle.rules.proofs.Choices.{equal-yes, equal-no}
 use Rattle.endian.proofs.Spelled.{byte-at}
 

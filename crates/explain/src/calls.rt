@@ -4,7 +4,7 @@ ghost use Rattle.rules.specs.Numbers.{toldPrescribed, toldNext};
 ghost use Rattle.rules.specs.Explain.{explainOf, explainList, nextEligibleOf};
 use crate::list::explain_outcome;
 use crate::list::put_explanation;
-use deciding::decide::decide;
+use kernel_decide::decide::decide;
 use rules::KernelInput;
 use rules::NextEligible;
 use rules::Outcome;

@@ -6,24 +6,23 @@ ghost use lib.ListN.{length};
 ghost use Rattle.rules.specs.Limits.{explanationBytes, maxCatalogModels};
 ghost use Rattle.rules.specs.Bytes.{filled};
 ghost use Rattle.rules.specs.Records.{recordsIn, listedOf};
-ghost use Rattle.rules.specs.Refused.{bankFaults, roomFaults};
+ghost use Rattle.rules.specs.Refused.{bankFaults, roomFaults, firstFault, toldOutcome};
 ghost use Rattle.rules.specs.Verdict.{judged};
 ghost use Rattle.rules.specs.Explain.{explained, explanationOf};
-ghost use Rattle.outset.specs.Refuse.{leading, toldLeading};
-use crate::entry::entry_bytes;
-use crate::entry::numbers_of;
-use crate::verdict::candidate_verdict;
 use bank::unchecked::model_at;
-use deciding::stop::Stop;
-use deciding::stop::stopped_by;
-use outset::refuse::bank_outcome;
+use call_checks::refuse::bank_outcome;
+use explain_entries::entry::entry_bytes;
+use explain_entries::entry::verdict_numbers;
+use explain_entries::verdict::candidate_verdict;
+use kernel_decide::stop::Stop;
+use kernel_decide::stop::stopped_by;
+use kernel_scan::pricing_for;
 use rules::KernelInput;
 use rules::Outcome;
 use rules::PolicySnapshot;
 use rules::Refusal;
 use rules::limits::EXPLANATION_BYTES;
 use rules::limits::RECORD_BYTES;
-use scan::pricing_for;
 use splice::put_bytes;
 
 // Every record's entry, in the order of the bank, from the start of a list on.
@@ -36,7 +35,7 @@ fn put_entries(policy: PolicySnapshot, bank: &[u8], input: KernelInput, list: &m
     let mut i = 0;
     while i < n {
         let model = model_at(bank, i);
-        let told = numbers_of(candidate_verdict(pricing, input, model));
+        let told = verdict_numbers(candidate_verdict(pricing, input, model));
         let entry = entry_bytes(i as u16, model, told);
         put_bytes(list, EXPLANATION_BYTES * i, &entry);
         i += 1;
@@ -74,7 +73,7 @@ pub fn explain_outcome(
     input: KernelInput,
     room: usize,
 ) -> Outcome
-    ensures { λ r. ⌜ toldLeading r ≡ leading (bankFaults (now (bank .entry)) ++ roomFaults (length (explanationOf policy input (listedOf (now (bank .entry))))) room) ⌝ }
+    ensures { λ r. ⌜ toldOutcome r ≡ firstFault (bankFaults (now (bank .entry)) ++ roomFaults (length (explanationOf policy input (listedOf (now (bank .entry))))) room) ⌝ }
 {
     let outcome = bank_outcome(bank.len());
     if let Outcome::Refused(refusal) = outcome {

@@ -14,7 +14,7 @@ use rules::limits::MAX_PROVIDER_ID;
 const MAX_U32: u32 = 0xffff_ffff;
 
 // A limit less one in 32 bits: no limit, 0, becomes the highest.
-fn one_below(limit: u32) -> u32
+fn limit_less_one(limit: u32) -> u32
     ensures { λ r. ⌜ r ≡ (limit + (2 ^ 32 - 1)) % 2 ^ 32 ⌝ }
 {
     if limit == 0 {
@@ -24,7 +24,7 @@ fn one_below(limit: u32) -> u32
 }
 
 // A latency less one, or 0.
-fn one_less(ms: u32) -> u32
+fn latency_less_one(ms: u32) -> u32
     ensures { λ r. ⌜ r ≡ ms - 1 ⌝ }
 {
     if ms == 0 {
@@ -38,7 +38,7 @@ fn one_less(ms: u32) -> u32
 fn is_slow(model: KernelModel, input: KernelInput) -> bool
     ensures { λ r. ⌜ r ≡ isSlow model input ⌝ }
 {
-    one_below(input.max_p95_latency_ms) < one_less(model.p95_latency_ms)
+    limit_less_one(input.max_p95_latency_ms) < latency_less_one(model.p95_latency_ms)
 }
 
 // Gate 4: a required capability is missing.
@@ -96,7 +96,7 @@ pub fn first_failed_gate(model: KernelModel, input: KernelInput) -> u8
 }
 
 // What a gate measured, and its limit.
-fn compared(measured: u64, limit: u64) -> GateDetail
+fn detail(measured: u64, limit: u64) -> GateDetail
     ensures { λ r. ⌜ r ≡ detail measured limit ⌝ }
 {
     GateDetail { measured, limit }
@@ -108,16 +108,16 @@ pub fn gate_detail(model: KernelModel, input: KernelInput, gate: u8) -> GateDeta
 {
     match gate {
         // Nothing is measured against a switch: always 0 and 1.
-        1 => compared(0, 1),
-        2 => compared(model.quality_bps as u64, input.minimum_quality_bps as u64),
-        3 => compared(model.p95_latency_ms as u64, input.max_p95_latency_ms as u64),
-        4 => compared(model.capabilities, input.required_capabilities),
-        5 => compared(model.provider_id as u64, MAX_PROVIDER_ID as u64),
-        6 => compared(model.provider_id as u64, input.allowed_provider_mask),
-        7 => compared(model.region_mask, input.required_region_mask),
+        1 => detail(0, 1),
+        2 => detail(model.quality_bps as u64, input.minimum_quality_bps as u64),
+        3 => detail(model.p95_latency_ms as u64, input.max_p95_latency_ms as u64),
+        4 => detail(model.capabilities, input.required_capabilities),
+        5 => detail(model.provider_id as u64, MAX_PROVIDER_ID as u64),
+        6 => detail(model.provider_id as u64, input.allowed_provider_mask),
+        7 => detail(model.region_mask, input.required_region_mask),
         // Here the number measured is the request's, and the model sets the limit.
-        8 => compared(input.risk_bps as u64, model.risk_ceiling_bps as u64),
-        _ => compared(0, 0),
+        8 => detail(input.risk_bps as u64, model.risk_ceiling_bps as u64),
+        _ => detail(0, 0),
     }
 }
 

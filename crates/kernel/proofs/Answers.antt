@@ -1,15 +1,11 @@
 -- ANY TWO PERMITTED ANSWERS ARE EQUAL, for each call that a user makes: the rule that its promise cites is told, and what is told has a way
 -- back. Assumes nothing.
-use Prim.Native.Nat.{ℕ}
-use mathlib.Core.List.{List, [], _∷_, _++_}
-use mathlib.Core.Path.{_≡_, refl}
-use Rattle.rules.specs.Refused.{toldOutcome, Faults, bankFaults, Answer, refused, answered, unless}
-use Rattle.rules.specs.Numbers.{toldPrescribed, toldTraced, toldUtility, toldFound, Decision, DecisionAndTrace}
-use Rattle.rules.specs.Records.{listedOf}
-use Rattle.rules.specs.Listing.{findOf}
-use Rattle.rules.specs.Decide.{requestFaults, requestCheck, tracedOf, prescribeOf, prescribeCheckedOf, prescribeTracedOf, prescribeTracedCheckedOf, utilityForModelOf}
-use Rattle.rules.specs.declared.records.KernelInput.{KernelInput}
-use Rattle.rules.specs.declared.records.PolicySnapshot.{PolicySnapshot}
+use Rattle.rules.proofs.Kit.{ℕ, List, [], _∷_, _++_, _≡_, refl}
+use Rattle.rules.specs.{Refused.toldOutcome, Refused.Faults, Refused.bankFaults, Refused.Answer, Refused.refused, Refused.answered, Refused.unless}
+use Rattle.rules.specs.{Numbers.toldPrescribed, Numbers.toldTraced, Numbers.toldUtility, Numbers.toldFound, Numbers.Decision, Numbers.DecisionAndTrace}
+use Rattle.rules.specs.{Records.listedOf, Listing.findOf, Decide.requestFaults, Decide.requestCheck, Decide.tracedOf, Decide.prescribeOf}
+use Rattle.rules.specs.{Decide.prescribeCheckedOf, Decide.prescribeTracedOf, Decide.prescribeTracedCheckedOf, Decide.utilityForModelOf}
+use Rattle.rules.specs.{declared.records.KernelInput.KernelInput, declared.records.PolicySnapshot.PolicySnapshot}
 use Rattle.rules.proofs.Told.{Same, one-outcome, one-prescribed, one-traced, one-utility, one-found}
 
 module _ (p : PolicySnapshot) (q : KernelInput) (bank : List ℕ) where
@@ -39,7 +35,7 @@ abbrev pub untraced : Answer DecisionAndTrace → Answer Decision
 untraced (refused f) = refused f
 untraced (answered a) = answered (a .decision)
 
-without : (faults : Faults) (a : DecisionAndTrace) → unless faults (answered (a .decision)) ≡ untraced (unless faults (answered a))
+without : (faults : Faults) (a : DecisionAndTrace) → unless faults refused (answered (a .decision)) ≡ untraced (unless faults refused (answered a))
 without [] a = refl
 without (f ∷ fs) a = refl
 

@@ -7,15 +7,17 @@ ghost use Rattle.rules.specs.Records.{recordsIn, listedOf};
 ghost use Rattle.rules.specs.Refused.{answered};
 ghost use Rattle.rules.specs.Numbers.{toldDecision, toldPrescribed, toldTraced};
 ghost use Rattle.rules.specs.Decide.{traceOf, tracedOf, prescribeOf, prescribeCheckedOf, prescribeTracedOf, prescribeTracedCheckedOf};
-use deciding::decide::decide;
-use deciding::decide::decided;
-use deciding::decide::rejected;
-use deciding::stop::Stop;
-use deciding::stop::stopped_by;
-use outset::refuse::bank_outcome;
-use outset::refuse::checked_outcome;
-use ranking::state::no_counts;
-use ranking::state::start;
+use call_checks::refuse::bank_outcome;
+use call_checks::refuse::checked_outcome;
+use kernel_decide::decide::decide;
+use kernel_decide::decide::decision_of_scan;
+use kernel_decide::decide::rejection_for;
+use kernel_decide::stop::Stop;
+use kernel_decide::stop::stopped_by;
+use kernel_ranking::state::no_counts;
+use kernel_ranking::state::start;
+use kernel_scan::pricing_for;
+use kernel_scan::scan_on;
 use rules::DecisionTrace;
 use rules::KernelDecision;
 use rules::KernelInput;
@@ -25,8 +27,6 @@ use rules::Prescribed;
 use rules::RejectionHistogram;
 use rules::Traced;
 use rules::limits::RECORD_BYTES;
-use scan::pricing_for;
-use scan::scan_on;
 
 // `prescribe`: the decision over a bank. Refused: 1, 2.
 pub fn prescribe(policy: PolicySnapshot, bank: &[u8], input: KernelInput) -> Prescribed
@@ -68,14 +68,14 @@ fn traced(policy: PolicySnapshot, bank: &[u8], input: KernelInput) -> Traced
 {
     let stop = stopped_by(policy, input);
     if let Stop::By(reason) = stop {
-        let decision = rejected(policy, input, reason, 0);
+        let decision = rejection_for(policy, input, reason, 0);
         return Traced::Decided(decision, trace_of(decision, no_counts()));
     }
     let evaluated = (bank.len() / RECORD_BYTES) as u16;
     let pricing = pricing_for(policy, input);
     let state = scan_on(bank, 0, pricing, input, start());
     let counts = state.counts;
-    let decision = decided(policy, input, state, evaluated);
+    let decision = decision_of_scan(policy, input, state, evaluated);
     Traced::Decided(decision, trace_of(decision, counts))
 }
 

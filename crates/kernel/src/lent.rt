@@ -11,16 +11,16 @@ ghost use Rattle.rules.specs.Decide.{tracedOf};
 use crate::calls::trace_of;
 use bank::unchecked::input_of;
 use bank::unchecked::policy_of;
-use deciding::decide::decided;
-use deciding::decide::rejected;
-use deciding::stop::Stop;
-use deciding::stop::stopped_by;
-use ranking::state::no_counts;
-use ranking::state::start;
+use kernel_decide::decide::decision_of_scan;
+use kernel_decide::decide::rejection_for;
+use kernel_decide::stop::Stop;
+use kernel_decide::stop::stopped_by;
+use kernel_ranking::state::no_counts;
+use kernel_ranking::state::start;
+use kernel_scan::pricing_for;
+use kernel_scan::scan_on;
 use rules::Traced;
 use rules::limits::RECORD_BYTES;
-use scan::pricing_for;
-use scan::scan_on;
 
 // What `prescribe_with_trace` decides over a bank of whole records. Policy and request come as their bytes: handed on as structs they would
 // be stored and loaded once more before the scan, which is a tenth of the time on a small bank (docs/SPEED.md).
@@ -32,13 +32,13 @@ pub fn traced_lent(policy: &[u8], request: &[u8], bank: &[u8]) -> Traced
     let input = input_of(request);
     let stop = stopped_by(limits, input);
     if let Stop::By(reason) = stop {
-        let decision = rejected(limits, input, reason, 0);
+        let decision = rejection_for(limits, input, reason, 0);
         return Traced::Decided(decision, trace_of(decision, no_counts()));
     }
     let evaluated = (bank.len() / RECORD_BYTES) as u16;
     let pricing = pricing_for(limits, input);
     let state = scan_on(bank, 0, pricing, input, start());
     let counts = state.counts;
-    let decision = decided(limits, input, state, evaluated);
+    let decision = decision_of_scan(limits, input, state, evaluated);
     Traced::Decided(decision, trace_of(decision, counts))
 }

@@ -3,10 +3,10 @@ mod calls;
 pub mod lent;
 mod single;
 
+pub use call_checks::find;
+pub use call_checks::validate_input;
 pub use calls::prescribe;
 pub use calls::prescribe_checked;
 pub use calls::prescribe_with_trace;
 pub use calls::prescribe_with_trace_checked;
-pub use outset::find;
-pub use outset::validate_input;
 pub use single::utility_for_model;

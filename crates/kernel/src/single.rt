@@ -8,13 +8,15 @@ ghost use Rattle.rules.specs.Numbers.{toldUtility};
 ghost use Rattle.rules.specs.Verdict.{verdictOf};
 ghost use Rattle.rules.specs.Decide.{ifEligible, utilityIn, utilityForModelOf};
 ghost use Rattle.kernel.specs.Single.{worthFrom};
-use deciding::stop::Stop;
-use deciding::stop::stopped_by;
-use outset::listing::first_listed;
-use outset::refuse::bank_outcome;
+use call_checks::listing::first_listed;
+use call_checks::refuse::bank_outcome;
+use kernel_decide::stop::Stop;
+use kernel_decide::stop::stopped_by;
+use kernel_ranking::state::State;
+use kernel_ranking::state::start;
+use kernel_scan::pricing_for;
+use kernel_scan::scan_on;
 use pricing::utility_of;
-use ranking::state::State;
-use ranking::state::start;
 use rules::Found;
 use rules::KernelInput;
 use rules::Outcome;
@@ -22,8 +24,6 @@ use rules::PolicySnapshot;
 use rules::Refusal;
 use rules::UtilityFound;
 use rules::limits::RECORD_BYTES;
-use scan::pricing_for;
-use scan::scan_on;
 
 // The best one's utility, or 7 where nothing is eligible.
 fn worth_of(state: State) -> UtilityFound

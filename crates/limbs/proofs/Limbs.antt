@@ -1,13 +1,8 @@
 -- Numbers of two digits in any base P: how their product, sum and order go by the digits. Assumes nothing.
-use mathlib.Core.Path.{_≡_, refl, sym, ap, _∙_}
-use mathlib.Core.Bool.{Bool, true, false}
-use Prim.Native.Nat.{ℕ, _+_, _*_, _/_, _%_, _-_, _^_, _<_, _≤_}
-use native.Mathlib.Nat.{add-assoc, add-comm, add-left-comm, mul-assoc, mul-comm, mul-left-comm, mul-add, add-mul, mul-le-mul, mul-le-mul-right, lt-of-le-of-lt, lt-of-mul-lt-mul-right, lt-of-lt-of-le, lt-of-not-le, not-le-of-lt, le-of-suc-le-suc, mod-lt, div-add-mod'}
-use native.Mathlib.Omega.{arith}
-use lib.Arith.{digits-lt}
-use lib.Dec.{ltb}
-use lib.Pow.{le-ones, pow-pos}
-use borrow.Author.Tests.{lt-ltb, le-ltb}
+use Rattle.rules.proofs.Kit.{_≡_, refl, sym, ap, _∙_, Bool, true, false, ℕ, _+_, _*_, _/_, _%_, _-_, _^_, _<_, _≤_, add-assoc, add-comm, add-left-comm}
+use Rattle.rules.proofs.Kit.{mul-assoc, mul-comm, mul-left-comm, mul-add, add-mul, mul-le-mul, mul-le-mul-right, lt-of-le-of-lt, lt-of-mul-lt-mul-right}
+use Rattle.rules.proofs.Kit.{lt-of-lt-of-le, lt-of-not-le, not-le-of-lt, le-of-suc-le-suc, mod-lt, div-add-mod', arith, ltb, lt-ltb, le-ltb}
+use lib.{Arith.digits-lt, Pow.le-ones, Pow.pow-pos}
 use Rattle.rules.specs.Wide.{limbs}
 
 -- ---- the product

@@ -1,8 +1,5 @@
 -- Numbers with a sign: the difference of two, by their order. Assumes nothing.
-use mathlib.Core.Path.{_≡_, sym, ap, _∙_}
-use Prim.Native.Nat.{ℕ, suc, _-_, _≤_, _<_}
-use native.Mathlib.Omega.{arith}
-use lib.IntN.{pos, negℤ, _-ℤ_}
+use Rattle.rules.proofs.Kit.{_≡_, sym, ap, _∙_, ℕ, suc, _-_, _≤_, _<_, arith, pos, negℤ, _-ℤ_}
 use Rattle.rules.proofs.Integers.{sub-is, sub-above, sub-below}
 
 pub less-above : (a b n : ℕ) → b ≤ a → n ≡ a - b → pos n ≡ pos a -ℤ pos b

@@ -1,12 +1,7 @@
 -- A limb's division, bit by bit: what a turn keeps, in any base 2 * H and then at 2 ^ 64, and how two limbs make a
 -- quotient. Assumes nothing.
-use mathlib.Core.Path.{_≡_, sym, ap, _∙_}
-use Prim.Native.Nat.{ℕ, _+_, _*_, _/_, _%_, _-_, _^_, _<_, _≤_}
-use native.Mathlib.Nat.{div-add-mod', pow-suc}
-use native.Mathlib.Numerals.{add-one}
-use native.Mathlib.Omega.{arith}
-use lib.Arith.{digits-div}
-use lib.Pow.{pow-mono}
+use Rattle.rules.proofs.Kit.{_≡_, sym, ap, _∙_, ℕ, _+_, _*_, _/_, _%_, _-_, _^_, _<_, _≤_, div-add-mod', pow-suc, add-one, arith}
+use lib.{Arith.digits-div, Pow.pow-mono}
 use Rattle.rules.specs.Wide.{limbs}
 
 -- one bit more doubles
@@ -67,12 +62,26 @@ module _ {X d q r s i : ℕ} (t : Turned X d q r s i) where
   -- a turn to the state (p, n, u), which gives the quotient a zero, and one that gives it a one
   module _ (p n u : ℕ) (k : i < 64) (g : u ≡ s % 2 ^ 63 * 2) where
     pub turn-zero : r * 2 + s / 2 ^ 63 < d → p ≡ q * 2 → n ≡ r * 2 + s / 2 ^ 63 → Turned X d p n u (i + 1)
-    turn-zero h e f =
-        record { whole = ap (limbs (p * d + n)) g ∙ next (p * d + n) (sum-zero d q r _ p n e f); below = omega arith; room = omega (arith, twice i); limb = omega arith; turns = omega arith }
+    turn-zero h e f = record {
+      whole = ap (limbs (p * d + n)) g ∙ next (p * d + n) (sum-zero d q r _ p n e f);
+      below = omega arith;
+      room = omega (arith, twice i);
+      limb = omega arith;
+      turns = omega arith;
+    }
 
     pub turn-one : d ≤ r * 2 + s / 2 ^ 63 → p ≡ q * 2 + 1 → n ≡ r * 2 + s / 2 ^ 63 - d → Turned X d p n u (i + 1)
     turn-one h e f =
-        record { whole = ap (limbs (p * d + n)) g ∙ next (p * d + n) (sum-one d q r _ p n h e f); below = once d q r _ p n (t .below) (bit-le (t .limb)) f; room = omega (arith, twice i); limb = omega arith; turns = omega arith }
+        record {
+          whole = ap (limbs (p * d + n)) g ∙ next (p * d + n) (sum-one d q r _ p n h e f);
+          below = once d q r _ p n (t .below) (bit-le (t .limb)) f;
+          room = omega (
+            arith,
+            twice i,
+          );
+          limb = omega arith;
+          turns = omega arith;
+        }
 
   -- after the last turn
   last : limbs (q * d + r) s ≡ X * 2 ^ 64 → q * d + r ≡ X

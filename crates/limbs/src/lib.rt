@@ -122,7 +122,7 @@ struct Division {
 
 // One limb by d, bit by bit from the highest; `carried` is what the limb above left. A turn shifts the next bit into the
 // remainder. That is then below 2 * d, so d goes into it once, a one in the quotient, or not at all.
-fn bits(limb: u64, carried: u64, d: u64) -> Division
+fn divide_limb(limb: u64, carried: u64, d: u64) -> Division
     requires { ⌜ (carried < d) × (d < 2 ^ 32) ⌝ }
     ensures { λ r. ⌜ (r .quotient * d + r .rem ≡ limbs carried limb) × (r .rem < d) ⌝ }
 {
@@ -149,8 +149,8 @@ pub fn quotient(w: Wide, d: u64) -> Wide
     requires { ⌜ (0 < d) × (d < 2 ^ 32) ⌝ }
     ensures { λ r. ⌜ val r ≡ val w / d ⌝ }
 {
-    let upper = bits(w.hi, 0, d);
-    let lower = bits(w.lo, upper.rem, d);
+    let upper = divide_limb(w.hi, 0, d);
+    let lower = divide_limb(w.lo, upper.rem, d);
     Wide {
         hi: upper.quotient,
         lo: lower.quotient,

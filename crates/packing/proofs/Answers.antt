@@ -1,8 +1,6 @@
 -- ANY TWO PERMITTED ANSWERS ARE EQUAL, for each call that a user makes. Assumes nothing.
-use Rattle.rules.specs.Records.{modelBytes, inputBytes, policyInBytes}
-use Rattle.rules.specs.declared.records.KernelModel.{KernelModel}
-use Rattle.rules.specs.declared.records.KernelInput.{KernelInput}
-use Rattle.rules.specs.declared.records.PolicySnapshot.{PolicySnapshot}
+use Rattle.rules.specs.{Records.modelBytes, Records.inputBytes, Records.policyInBytes, declared.records.KernelModel.KernelModel}
+use Rattle.rules.specs.{declared.records.KernelInput.KernelInput, declared.records.PolicySnapshot.PolicySnapshot}
 use Rattle.rules.proofs.Told.{Same, one-itself}
 
 pub one-model-bytes : (m : KernelModel) → Same (λ r. r) (modelBytes m)

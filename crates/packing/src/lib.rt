@@ -1,11 +1,10 @@
-// The bytes that say a model, a request and a policy.
-// Every layout is packed: each field starts where the one before it ends.
+// The bytes that say a model, a request and a policy. Every layout is packed: each field starts where the one before it ends. What is passed on
+// here asks nothing of its caller; `unchecked` is for other crates.
+pub mod unchecked;
+
 ghost use mathlib.Core.Path.{_≡_};
 ghost use Rattle.rules.specs.Records.{modelBytes, inputBytes, policyInBytes};
-use endian::bits;
-use endian::put16;
-use endian::put32;
-use endian::put64;
+use endian::signed_bits;
 use rules::KernelInput;
 use rules::KernelModel;
 use rules::PolicySnapshot;
@@ -15,22 +14,27 @@ use rules::limits::PolicyBytes;
 use rules::limits::RECORD_BYTES;
 use rules::limits::REQUEST_BYTES;
 use rules::limits::RequestBytes;
+use unchecked::put_packed;
 
 // The bytes that say a model.
 pub fn model_bytes(m: KernelModel) -> ModelBytes
     ensures { λ r. ⌜ r ≡ modelBytes m ⌝ }
 {
+    let widths = [4, 2, 2, 2, 1, 4, 8, 8, 8, 8];
+    let values = [
+        m.model_id as u64,
+        m.provider_id as u64,
+        m.quality_bps as u64,
+        m.risk_ceiling_bps as u64,
+        m.enabled as u64,
+        m.p95_latency_ms as u64,
+        m.capabilities,
+        m.region_mask,
+        m.input_cost_microunits_per_million_tokens,
+        m.output_cost_microunits_per_million_tokens,
+    ];
     let mut a = [0u8; RECORD_BYTES];
-    put32(&mut a, 0, m.model_id);
-    put16(&mut a, 4, m.provider_id);
-    put16(&mut a, 6, m.quality_bps);
-    put16(&mut a, 8, m.risk_ceiling_bps);
-    a[10] = m.enabled;
-    put32(&mut a, 11, m.p95_latency_ms);
-    put64(&mut a, 15, m.capabilities);
-    put64(&mut a, 23, m.region_mask);
-    put64(&mut a, 31, m.input_cost_microunits_per_million_tokens);
-    put64(&mut a, 39, m.output_cost_microunits_per_million_tokens);
+    put_packed(&mut a, &widths, &values);
     a
 }
 
@@ -38,20 +42,24 @@ pub fn model_bytes(m: KernelModel) -> ModelBytes
 pub fn input_bytes(q: KernelInput) -> RequestBytes
     ensures { λ r. ⌜ r ≡ inputBytes q ⌝ }
 {
+    let widths = [8, 4, 4, 4, 8, 8, 2, 2, 2, 4, 8, 8, 8];
+    let values = [
+        q.request_sequence,
+        q.requested_model_id as u64,
+        q.input_tokens as u64,
+        q.output_tokens as u64,
+        signed_bits(q.business_value_microunits),
+        q.budget_limit_microunits,
+        q.risk_bps as u64,
+        q.confidence_bps as u64,
+        q.minimum_quality_bps as u64,
+        q.max_p95_latency_ms as u64,
+        q.required_capabilities,
+        q.allowed_provider_mask,
+        q.required_region_mask,
+    ];
     let mut a = [0u8; REQUEST_BYTES];
-    put64(&mut a, 0, q.request_sequence);
-    put32(&mut a, 8, q.requested_model_id);
-    put32(&mut a, 12, q.input_tokens);
-    put32(&mut a, 16, q.output_tokens);
-    put64(&mut a, 20, bits(q.business_value_microunits));
-    put64(&mut a, 28, q.budget_limit_microunits);
-    put16(&mut a, 36, q.risk_bps);
-    put16(&mut a, 38, q.confidence_bps);
-    put16(&mut a, 40, q.minimum_quality_bps);
-    put32(&mut a, 42, q.max_p95_latency_ms);
-    put64(&mut a, 46, q.required_capabilities);
-    put64(&mut a, 54, q.allowed_provider_mask);
-    put64(&mut a, 62, q.required_region_mask);
+    put_packed(&mut a, &widths, &values);
     a
 }
 
@@ -59,12 +67,16 @@ pub fn input_bytes(q: KernelInput) -> RequestBytes
 pub fn policy_bytes(p: PolicySnapshot) -> PolicyBytes
     ensures { λ r. ⌜ r ≡ policyInBytes p ⌝ }
 {
+    let widths = [8, 8, 2, 2, 2, 8];
+    let values = [
+        p.policy_epoch,
+        p.catalog_epoch,
+        p.hard_risk_limit_bps as u64,
+        p.minimum_confidence_bps as u64,
+        p.risk_penalty_multiplier_bps as u64,
+        p.latency_penalty_microunits_per_ms,
+    ];
     let mut a = [0u8; POLICY_BYTES];
-    put64(&mut a, 0, p.policy_epoch);
-    put64(&mut a, 8, p.catalog_epoch);
-    put16(&mut a, 16, p.hard_risk_limit_bps);
-    put16(&mut a, 18, p.minimum_confidence_bps);
-    put16(&mut a, 20, p.risk_penalty_multiplier_bps);
-    put64(&mut a, 22, p.latency_penalty_microunits_per_ms);
+    put_packed(&mut a, &widths, &values);
     a
 }

@@ -1,21 +1,16 @@
 -- What the crate's definitions are by the rules of document 01. Assumes nothing.
-use mathlib.Core.Path.{_≡_, refl, ap, _∙_}
-use Prim.Native.Nat.{_+_, _^_, _<_}
-use Rattle.rules.specs.Price.{costOf}
-use Rattle.rules.specs.Utility.{held, orZero, qualityTermOf, riskTermOf, latencyTermOf, exactUtilityOf, utilityOf}
-use Rattle.rules.specs.Wide.{val}
-use Rattle.rules.specs.declared.records.KernelModel.{KernelModel}
-use Rattle.rules.specs.declared.records.KernelInput.{KernelInput}
-use Rattle.rules.specs.declared.records.PolicySnapshot.{PolicySnapshot}
-use Rattle.pricing.specs.declared.ScoredTerms.{ScoredTerms}
-use Rattle.pricing.specs.Score.{unscored, scoreOf}
-use Rattle.pricing.specs.Pricing.{pricingOf, Settled, scoredTerms, termsWith}
+use Rattle.rules.proofs.Kit.{_≡_, refl, ap, _∙_, _+_, _^_, _<_}
+use Rattle.rules.specs.{Price.costOf, Utility.held, Utility.orZero, Utility.qualityTermOf, Utility.riskTermOf, Utility.latencyTermOf, Utility.exactUtilityOf}
+use Rattle.rules.specs.{Utility.utilityOf, Wide.val, declared.records.KernelModel.KernelModel, declared.records.KernelInput.KernelInput}
+use Rattle.rules.specs.{declared.records.PolicySnapshot.PolicySnapshot}
+use Rattle.pricing.specs.{declared.ScoredTerms.ScoredTerms, Score.unscored, Score.scoreOf, Pricing.pricingOf, Pricing.Settled, Pricing.scoredTerms}
+use Rattle.pricing.specs.{Pricing.termsWith}
 use Rattle.rules.proofs.Limbs.{wide-val}
-use Rattle.pricing.proofs.Values.{share-lt}
-use Rattle.pricing.proofs.Scores.{score-stands, three-losses}
+use Rattle.pricing.proofs.{Values.share-lt, Scores.score-stands, Scores.three-losses}
 
 -- a pricing of a policy and a request whose numbers are those of their types is settled
-pub settled : (p : PolicySnapshot) (q : KernelInput) → orZero (q .«business_value_microunits») < 2 ^ 64 → q .«risk_bps» < 2 ^ 16 → p .«risk_penalty_multiplier_bps» < 2 ^ 16 → Settled (pricingOf p q)
+pub settled : (p : PolicySnapshot) (q : KernelInput) → orZero (q .«business_value_microunits») < 2 ^ 64 → q .«risk_bps» < 2 ^ 16
+    → p .«risk_penalty_multiplier_bps» < 2 ^ 16 → Settled (pricingOf p q)
 unfolding pricingOf riskTermOf
 settled p q v r m = record { prefix = refl; room = rw (wide-val (riskTermOf p q)) (share-lt v r m) }
 

@@ -1,23 +1,11 @@
 -- Scores and the integers that they stand for. Assumes nothing.
-use mathlib.Core.Path.{_≡_, refl, sym, ap, ap₂, _∙_}
-use mathlib.Core.Bool.{Bool, true, false}
-use Prim.Native.Nat.{ℕ, suc, _+_, _-_, _^_, _≤_, _<_}
-use native.Mathlib.Nat.{le-of-suc-le-suc, lt-of-not-le}
-use native.Mathlib.Decide.{decLt}
-use native.Mathlib.Omega.{arith}
-use borrow.Author.Tests.{lt-ltb, le-ltb, le-leb, lt-leb, ltb-true, ltb-false}
-use lib.Dec.{T, ltb, leb}
-use lib.IntN.{ℤ, pos, negsuc, negℤ, natAbs, subℕ, _+ℤ_, _-ℤ_, +ℤ-assoc, negℤ-+ℤ}
-use lib.Signed.{ltZ, leZ, nonNeg}
-use mir.Syntax.{w64}
-use mir.Val.{toZ}
+use Rattle.rules.proofs.Kit.{_≡_, refl, sym, ap, ap₂, _∙_, Bool, true, false, ℕ, suc, _+_, _-_, _^_, _≤_, _<_, le-of-suc-le-suc, lt-of-not-le, decLt, arith}
+use Rattle.rules.proofs.Kit.{lt-ltb, le-ltb, le-leb, lt-leb, ltb-true, ltb-false, T, ltb, leb, ℤ, pos, negsuc, negℤ, natAbs, subℕ, _+ℤ_, _-ℤ_, +ℤ-assoc}
+use Rattle.rules.proofs.Kit.{negℤ-+ℤ, ltZ, leZ, nonNeg, w64, toZ}
 use mir.Facts.{toZ-pos, toZ-neg}
 use Rattle.limbs.proofs.Limbs.{decides}
 use Rattle.rules.proofs.Integers.{sub-is, sub-above, sub-below}
-use Rattle.rules.specs.Limits.{maxU64, maxI64}
-use Rattle.rules.specs.Utility.{held, orZero}
-use Rattle.rules.specs.Wide.{val, valZ, signed}
-use Rattle.rules.specs.declared.wide.SignedWide.{SignedWide}
+use Rattle.rules.specs.{Limits.maxU64, Limits.maxI64, Utility.held, Utility.orZero, Wide.val, Wide.valZ, Wide.signed, declared.wide.SignedWide.SignedWide}
 use Rattle.pricing.specs.Score.{unscored, scored, scoreOf}
 
 le-of : {a b : ℕ} → ¬ (a < b) → b ≤ a
@@ -61,7 +49,8 @@ ltb-agree : (a b x y : ℕ) → (a < b → x < y) → (b ≤ a → y ≤ x) → 
 ltb-agree a b x y f g = decides (ltb a b) x y (λ e. f (ltb-true a b e)) (λ e. g (ltb-false a b e))
 
 ordered : (a b : ℕ) → Dec (a < 2 ^ 63) → Dec (b < 2 ^ 63) → ltZ (unscored a) (unscored b) ≡ ltb a b
-ordered a b (yes p) (yes q) = ap₂ ltZ (unscored-below a p) (unscored-below b q) ∙ ltb-agree (2 ^ 63 - suc b) (2 ^ 63 - suc a) a b (λ h. omega arith) (λ h. omega arith)
+ordered a b (yes p) (yes q) =
+    ap₂ ltZ (unscored-below a p) (unscored-below b q) ∙ ltb-agree (2 ^ 63 - suc b) (2 ^ 63 - suc a) a b (λ h. omega arith) (λ h. omega arith)
 ordered a b (yes p) (no q) = ap₂ ltZ (unscored-below a p) (unscored-above b (le-of q)) ∙ sym (lt-ltb a b (omega (arith, le-of q)))
 ordered a b (no p) (yes q) = ap₂ ltZ (unscored-above a (le-of p)) (unscored-below b q) ∙ sym (le-ltb a b (omega (arith, le-of p)))
 ordered a b (no p) (no q) =
@@ -106,7 +95,9 @@ size-is s a b n e h = ap natAbs (ap (λ t. signed t (val (s .size))) (sym n) ∙
 -- ---- the machine's signed numbers
 
 pub signed-below : (s : ℕ) → s < 2 ^ 63 → toZ w64 (maxU64 - (maxI64 - s)) ≡ unscored s
-signed-below s h = ap (toZ w64) {x = maxU64 - (maxI64 - s)} {y = 2 ^ 64 - suc (2 ^ 63 - suc s)} (omega arith) ∙ toZ-neg w64 (2 ^ 63 - suc s) (omega arith) ∙ sym (unscored-below s h)
+signed-below s h =
+    ap (toZ w64) {x = maxU64 - (maxI64 - s)} {y = 2 ^ 64 - suc (2 ^ 63 - suc s)} (omega arith) ∙ toZ-neg w64 (2 ^ 63 - suc s) (omega arith)
+    ∙ sym (unscored-below s h)
 
 pub signed-above : (s : ℕ) → 2 ^ 63 ≤ s → s < 2 ^ 64 → toZ w64 (s - 2 ^ 63) ≡ unscored s
 signed-above s h k = toZ-pos w64 (omega arith) ∙ sym (unscored-above s h)

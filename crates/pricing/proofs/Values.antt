@@ -1,17 +1,8 @@
 -- How large products and terms are, and which limbs a number has. Assumes nothing.
-use mathlib.Core.Path.{_≡_, sym, ap, _∙_}
-use Prim.Native.Nat.{ℕ, _-_, _*_, _/_, _^_, _<_, _≤_}
-use native.Mathlib.Nat.{mul-le-mul, lt-of-not-le, le-of-suc-le-suc, mul-assoc}
-use native.Mathlib.Omega.{arith}
-use native.Mathlib.Decide.{decLt}
+use Rattle.rules.proofs.Kit.{_≡_, sym, ap, _∙_, ℕ, _-_, _*_, _/_, _^_, _<_, _≤_, mul-le-mul, lt-of-not-le, le-of-suc-le-suc, mul-assoc, arith, decLt}
 use lib.Pow.{le-ones}
-use Rattle.rules.proofs.Limbs.{wide-back}
-use Rattle.rules.proofs.Choices.{below-yes, below-no}
-use Rattle.rules.specs.Limits.{scaledBasisPoints, maxU64}
-use Rattle.rules.specs.Utility.{shareOf}
-use Rattle.rules.specs.Wide.{val, wideOf}
-use Rattle.rules.specs.declared.wide.Wide.{Wide}
-use Rattle.rules.specs.Choice.{below}
+use Rattle.rules.proofs.{Limbs.wide-back, Choices.below-yes, Choices.below-no}
+use Rattle.rules.specs.{Limits.scaledBasisPoints, Limits.maxU64, Utility.shareOf, Wide.val, Wide.wideOf, declared.wide.Wide.Wide, Choice.below}
 use Rattle.pricing.specs.Pricing.{prefixOf, priceLimit}
 
 -- numbers of j and of k bits multiply to no more than the highest two do
@@ -19,13 +10,18 @@ pub product-le : (j k : ℕ) {a b : ℕ} → a < 2 ^ j → b < 2 ^ k → a * b �
 product-le j k p q = mul-le-mul (le-ones j p) (le-ones k q)
 
 -- a price below the limit of two counts of tokens fits 64 bits with either of them
-limit-cases : (t m x : ℕ) → t < 2 ^ 32 → m < 2 ^ 32 → x < priceLimit t m → Dec (t < 2 ^ 24) → Dec (m < 2 ^ 24) → (t * x ≤ (2 ^ 32 - 1) * (2 ^ 32 - 1)) × (m * x ≤ (2 ^ 32 - 1) * (2 ^ 32 - 1))
+limit-cases : (t m x : ℕ) → t < 2 ^ 32 → m < 2 ^ 32 → x < priceLimit t m → Dec (t < 2 ^ 24) → Dec (m < 2 ^ 24)
+    → (t * x ≤ (2 ^ 32 - 1) * (2 ^ 32 - 1)) × (m * x ≤ (2 ^ 32 - 1) * (2 ^ 32 - 1))
 unfolding priceLimit
 limit-cases t m x p q h (yes a) (yes b) =
     let l : x < 2 ^ 40 = omega (arith, below-yes t (2 ^ 24) (below m (2 ^ 24) (2 ^ 40) (2 ^ 32)) (2 ^ 32) a, below-yes m (2 ^ 24) (2 ^ 40) (2 ^ 32) b) in
     (omega (arith, product-le 24 40 a l), omega (arith, product-le 24 40 b l))
 limit-cases t m x p q h (yes a) (no n) =
-    let l : x < 2 ^ 32 = omega (arith, below-yes t (2 ^ 24) (below m (2 ^ 24) (2 ^ 40) (2 ^ 32)) (2 ^ 32) a, below-no m (2 ^ 24) (2 ^ 40) (2 ^ 32) (le-of-suc-le-suc (lt-of-not-le n))) in
+    let l : x < 2 ^ 32 = omega (
+      arith,
+      below-yes t (2 ^ 24) (below m (2 ^ 24) (2 ^ 40) (2 ^ 32)) (2 ^ 32) a,
+      below-no m (2 ^ 24) (2 ^ 40) (2 ^ 32) (le-of-suc-le-suc (lt-of-not-le n)),
+    ) in
     (product-le 32 32 p l, product-le 32 32 q l)
 limit-cases t m x p q h (no n) d =
     let l : x < 2 ^ 32 = omega (arith, below-no t (2 ^ 24) (below m (2 ^ 24) (2 ^ 40) (2 ^ 32)) (2 ^ 32) (le-of-suc-le-suc (lt-of-not-le n))) in

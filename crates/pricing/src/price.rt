@@ -43,20 +43,20 @@ fn rounded_up(exact: Wide) -> Wide
 }
 
 // Both directions by two limbs, each rounded up apart: `model_cost_reference`.
-fn cost_wide(tokens: u32, price: u64, more: u32, dear: u64) -> u64
-    ensures { λ r. ⌜ r ≡ min maxU64 ((tokens * price + (costScale - 1)) / costScale + (more * dear + (costScale - 1)) / costScale) ⌝ }
+fn cost_wide(input_tokens: u32, input_price: u64, output_tokens: u32, output_price: u64) -> u64
+    ensures { λ r. ⌜ r ≡ min maxU64 ((«input_tokens» * «input_price» + (costScale - 1)) / costScale + («output_tokens» * «output_price» + (costScale - 1)) / costScale) ⌝ }
 {
-    let there = exact_wide(tokens, price);
-    let back = exact_wide(more, dear);
+    let there = exact_wide(input_tokens, input_price);
+    let back = exact_wide(output_tokens, output_price);
     limbs::held(limbs::add(rounded_up(there), rounded_up(back)))
 }
 
 // What a price stays below for its tokens to be paid by 64 bits.
-fn price_limit(tokens: u32, more: u32) -> u64
-    ensures { λ r. ⌜ r ≡ priceLimit tokens more ⌝ }
+fn price_limit(input_tokens: u32, output_tokens: u32) -> u64
+    ensures { λ r. ⌜ r ≡ priceLimit «input_tokens» «output_tokens» ⌝ }
 {
-    if tokens < FEW_TOKENS {
-        if more < FEW_TOKENS {
+    if input_tokens < FEW_TOKENS {
+        if output_tokens < FEW_TOKENS {
             return HIGH_PRICE;
         }
     }

@@ -1,12 +1,11 @@
--- `better` orders candidates strictly, by five keys one after the other, and tells two with different places apart; the rules' insertion is
--- insertion by it. Assumes nothing.
-use mathlib.Core.Path.{_≡_, refl, sym, ap, _∙_}
-use mathlib.Core.Bool.{Bool, true, false, cond, not, false≢true}
-use mathlib.Core.List.{List, [], _∷_, _++_, foldl}
-use Rattle.rules.specs.Choice.{lower, higher}
-use Rattle.rules.specs.Rank.{Candidate, better, insert, sorted}
-use Rattle.rules.proofs.Strict.{Strict, one-way, none-before, numbers, integers, turned, first, level-all}
-use Rattle.rules.proofs.Strict.{Each, insertBy, Apart, sorted-each, sorted-moved}
+-- `better` orders candidates strictly, by five keys one after the other, and tells two with different places apart; so the laws of lists in
+-- order hold for the ranking. Assumes nothing.
+use Rattle.rules.proofs.Kit.{ℕ, _≡_, refl, sym, ap, Bool, true, false, cond, not, List, [], _∷_, _++_, eqb}
+use Rattle.rules.specs.{Choice.equal, Choice.lower, Choice.higher, Order.sortedBy, Order.Each, Order.InOrder, Records.Listed, Verdict.Judged}
+use Rattle.rules.specs.{Verdict.judged, Rank.Candidate, Rank.candidateOf, Rank.better, Rank.eligibles, Rank.ranking}
+use Rattle.rules.specs.{declared.records.KernelInput.KernelInput, declared.records.PolicySnapshot.PolicySnapshot}
+use Rattle.rules.proofs.{Strict.Strict, Strict.one-way, Strict.none-before, Strict.numbers, Strict.integers, Strict.turned, Strict.first}
+use Rattle.rules.proofs.{Strict.level-all, Sorted.Apart, Sorted.each-so, Sorted.sorted-in-order, Sorted.sorted-moved}
 
 -- Two that are level by each key
 abbrev Level : Candidate → Candidate → Type 0
@@ -60,27 +59,30 @@ places-apart a b d = go (better a b) refl
     go true p = better-one-way a b p
     go false p = one-is-better b a (λ e. d (sym e)) p
 
--- ---- the rules' insertion
+-- ---- the rules' ranking
 
-insert-by : (cs : List Candidate) (c : Candidate) → insert cs c ≡ insertBy better cs c
-insert-by [] c = refl
-insert-by (x ∷ xs) c = ap (λ l. cond (better c x) (c ∷ x ∷ xs) (x ∷ l)) (insert-by xs c)
+-- Demand 2. The ranking is in order: none is better than one before it
+pub ranking-in-order : (js : List Judged) → InOrder better (ranking js)
+unfolding ranking
+ranking-in-order js = sorted-in-order five (eligibles js)
 
-sorted-by : (acc cs : List Candidate) → foldl insert acc cs ≡ foldl (insertBy better) acc cs
-sorted-by acc [] = refl
-sorted-by acc (c ∷ cs) = ap (λ a. foldl insert a cs) (insert-by acc c) ∙ sorted-by (insertBy better acc c) cs
-
--- WHAT HOLDS FOR EACH CANDIDATE HOLDS FOR EACH IN ORDER
-pub candidates-each : (P : Candidate → Type 0) (cs : List Candidate) → Each P cs → Each P (sorted cs)
-candidates-each P cs h = rw (sorted-by [] cs) (sorted-each better P cs h)
-
--- THE ORDER OF CANDIDATES, wherever one of another place than those after it stands
+-- WHEREVER A CANDIDATE STANDS, of another place than those after it, it may as well come last
 pub candidate-moved : (xs : List Candidate) (c : Candidate) (ys : List Candidate) → Each (λ b. c .place ≡ b .place → ⊥) ys
-    → sorted (xs ++ c ∷ ys) ≡ insert (sorted (xs ++ ys)) c
-candidate-moved xs c ys h =
-    sorted-by [] (xs ++ c ∷ ys) ∙ sorted-moved better better-goes-on xs c ys (apart ys h)
-    ∙ sym (insert-by (sorted (xs ++ ys)) c ∙ ap (λ l. insertBy better l c) (sorted-by [] (xs ++ ys)))
+    → sortedBy better (xs ++ c ∷ ys) ≡ sortedBy better ((xs ++ ys) ++ c ∷ [])
+candidate-moved xs c ys h = sorted-moved better better-goes-on xs c ys (each-so _ (Apart better c) (λ b. places-apart c b) ys h)
+
+-- ---- what holds for the places of a list holds for those of its judged records and of its eligible models
+
+pub judged-each : (p : PolicySnapshot) (q : KernelInput) (P : ℕ → Type 0) (ls : List Listed) → Each (λ l. P (l .place)) ls
+    → Each (λ j. P (j .listed .place)) (judged p q ls)
+judged-each p q P [] h = tt
+judged-each p q P (l ∷ ls) h = (h .0, judged-each p q P ls (h .1))
+
+pub eligibles-each : (P : ℕ → Type 0) (js : List Judged) → Each (λ j. P (j .listed .place)) js → Each (λ c. P (c .place)) (eligibles js)
+unfolding equal
+eligibles-each P [] h = tt
+eligibles-each P (j ∷ js) h = go (eqb (j .verdict .kind) 4) (eligibles-each P js (h .1))
   where
-    apart : (ys : List Candidate) → Each (λ b. c .place ≡ b .place → ⊥) ys → Each (Apart better c) ys
-    apart [] h = tt
-    apart (b ∷ ys) h = (places-apart c b (h .0), apart ys (h .1))
+    go : (t : Bool) → Each (λ c. P (c .place)) (eligibles js) → Each (λ c. P (c .place)) (cond t (candidateOf j ∷ eligibles js) (eligibles js))
+    go true r = (h .0, r)
+    go false r = r

@@ -1,20 +1,11 @@
 -- Rows beyond document 01's on the boundary calls: where they don't search, what a search finds at the ends of each range; and on the view.
 -- Assumes nothing.
-use Prim.Native.Nat.{ℕ}
-use mathlib.Core.Path.{_≡_, refl}
-use mathlib.Core.Bool.{true, false}
-use mathlib.Core.List.{List, [], _∷_, _++_}
-use mathlib.Core.Option.{none, some}
-use lib.IntN.{pos}
-use lib.ListN.{replicate}
-use Rattle.rules.specs.Records.{modelOf, inputOf, policyOf}
-use Rattle.rules.specs.Refused.{fault, Answer, refused, answered}
-use Rattle.rules.specs.Numbers.{Decision, Boundary}
-use Rattle.rules.specs.View.{viewOf}
-use Rattle.rules.proofs.Opened.{rules}
-use Rattle.rules.proofs.Rows.{row, Named, Row, says, wouldWin, margin}
-use Rattle.rules.proofs.Example.{bank, modelOne, modelTwo, policy, request, with, named, uneven}
-use Rattle.rules.proofs.Example.{atHardLimit, unsure, valueless, decision, choice, rejected, lever, noLever, boundary}
+use Rattle.rules.proofs.Kit.{ℕ, refl, true, false, List, [], _∷_, _++_, none, some, pos, replicate}
+use Rattle.rules.specs.{Records.modelOf, Records.inputOf, Records.policyOf, Refused.fault, Refused.Answer, Refused.refused, Refused.answered}
+use Rattle.rules.specs.{Numbers.Decision, Numbers.Boundary, View.viewOf}
+use Rattle.rules.proofs.{Opened.rules, Rows.Row, Rows.says, Rows.wouldWin, Rows.margin, Example.bank, Example.modelOne, Example.modelTwo, Example.policy}
+use Rattle.rules.proofs.{Example.request, Example.with, Example.named, Example.uneven, Example.atHardLimit, Example.unsure, Example.valueless}
+use Rattle.rules.proofs.{Example.decision, Example.choice, Example.rejected, Example.lever, Example.noLever, Example.boundary}
 
 abbrev noLevers : ℕ → Decision → ℕ → Boundary
 noLevers id d n = boundary id d false (noLever ∷ noLever ∷ noLever ∷ noLever ∷ []) 0 n
@@ -22,7 +13,7 @@ noLevers id d n = boundary id d false (noLever ∷ noLever ∷ noLever ∷ noLev
 abbrev boundaryRefusal : ℕ → Boundary
 boundaryRefusal n =
     record {
-      refusal = fault n;
+      refusal = some (fault n);
       model = 0;
       decision = decision 0 3 102 0 65535 0 (pos 0) 0 (pos 0) 0 0 0 0;
       blocked = false;

@@ -1,10 +1,6 @@
 -- The ways of a choice: what decides it, as plain orders and equations. Assumes nothing.
-use Prim.Native.Nat.{ℕ, _<_, _≤_}
-use mathlib.Core.Path.{_≡_}
-use mathlib.Core.Bool.{Bool, true, false}
-use native.Mathlib.Omega.{arith}
-use borrow.Author.Tests.{lt-ltb, le-ltb, le-leb, lt-leb, eq-eqb, ne-eqb}
-use Rattle.rules.specs.Choice.{below, atLeast, equal, lower}
+use Rattle.rules.proofs.Kit.{ℕ, _<_, _≤_, _≡_, refl, Bool, true, false, arith, lt-ltb, le-ltb, le-leb, lt-leb, eq-eqb, ne-eqb, ltb}
+use Rattle.rules.specs.Choice.{below, atLeast, equal, firstly, lower}
 
 module _ {A : Type 0} (a b : ℕ) (x y : A) where
   pub below-yes : a < b → below a b x y ≡ x
@@ -43,3 +39,13 @@ module _ (a b : ℕ) (rest : Bool) where
   pub lower-level : a ≡ b → lower a b rest ≡ rest
   unfolding lower
   lower-level e = rw (le-ltb a b (omega arith), le-ltb b a (omega arith))
+
+-- the last key is its own test
+pub lower-last : (a b : ℕ) → lower a b false ≡ ltb a b
+unfolding lower
+lower-last a b = go (ltb a b) (ltb b a)
+  where
+    go : (t u : Bool) → firstly t u false ≡ t
+    go true u = refl
+    go false true = refl
+    go false false = refl

@@ -1,22 +1,11 @@
 -- The nine counts, record by record, and their sum. Assumes nothing.
-use Prim.Native.Nat.{ℕ, zero, suc, _+_, _-_, _<_, _≤_}
-use native.Mathlib.Omega.{arith}
-use mathlib.Core.Path.{_≡_, refl, ap, _∙_}
-use mathlib.Core.Bool.{Bool, true, false, cond}
-use mathlib.Core.List.{List, [], _∷_, _++_}
-use lib.Dec.{eqb}
-use lib.ListN.{length}
-use Rattle.rules.specs.Choice.{equal}
-use Rattle.rules.specs.Numbers.{Verdict}
-use Rattle.rules.specs.Records.{Listed}
-use Rattle.rules.specs.Verdict.{Judged, judge, judged, verdictOf}
-use Rattle.rules.specs.Rank.{Candidate, candidateOf, eligibles}
-use Rattle.rules.specs.Count.{gateReason, countedFor, oneMore, raisedBy, total, countsFrom, reasonsOf, countsOf}
-use Rattle.rules.specs.declared.decision.RejectionHistogram.{RejectionHistogram}
-use Rattle.rules.specs.declared.records.KernelInput.{KernelInput}
-use Rattle.rules.specs.declared.records.PolicySnapshot.{PolicySnapshot}
-use Rattle.rules.proofs.Reasons.{reason-counted}
-use Rattle.rules.proofs.Verdicts.{Told, by-gate, by-budget, by-utility, eligible, verdict-told}
+use Rattle.rules.proofs.Kit.{ℕ, zero, suc, _+_, _-_, _<_, _≤_, arith, _≡_, refl, ap, _∙_, Bool, true, false, cond, List, [], _∷_, _++_, eqb, length}
+use Rattle.rules.specs.{Choice.equal, Numbers.Verdict, Records.Listed, Verdict.Judged, Verdict.judge, Verdict.judged, Verdict.verdictOf, Rank.Candidate}
+use Rattle.rules.specs.{Rank.candidateOf, Rank.eligibles, Count.gateReason, Count.countedFor, Count.oneMore, Count.raisedBy, Count.total}
+use Rattle.rules.specs.{Count.countsFrom, Count.reasonsOf, Count.countsOf, declared.decision.RejectionHistogram.RejectionHistogram}
+use Rattle.rules.specs.{declared.records.KernelInput.KernelInput, declared.records.PolicySnapshot.PolicySnapshot}
+use Rattle.rules.proofs.{Reasons.reason-counted, Verdicts.Told, Verdicts.by-gate, Verdicts.by-budget, Verdicts.by-utility, Verdicts.eligible}
+use Rattle.rules.proofs.{Verdicts.verdict-told}
 
 -- ---- one record more
 
@@ -89,7 +78,8 @@ pub total-raised : (c : RejectionHistogram) (r : ℕ) → 102 ≤ r → r ≤ 11
 total-raised c r lo hi = let e : r ≡ 102 + (r - 102) = omega arith in rw e (total-at c (r - 102) (omega arith))
 
 -- One record more is one more in the counts, or one more that is eligible
-one-more : (c : RejectionHistogram) (x : Candidate) (xs : List Candidate) (v : Verdict) → Told v → total (raisedBy c (countedFor v)) + length (equal (v .verdict) 4 (x ∷ xs) xs) ≡ suc (total c + length xs)
+one-more : (c : RejectionHistogram) (x : Candidate) (xs : List Candidate) (v : Verdict) → Told v
+    → total (raisedBy c (countedFor v)) + length (equal (v .kind) 4 (x ∷ xs) xs) ≡ suc (total c + length xs)
 unfolding countedFor equal
 one-more c x xs v (by-gate e lo hi) = let b = reason-counted (v .gate) lo hi in rw e (omega (arith, total-raised c (gateReason (v .gate)) (b .0) (b .1)))
 one-more c x xs v (by-budget e) = rw e (omega (arith, total-at c 6 (omega arith)))
@@ -97,7 +87,8 @@ one-more c x xs v (by-utility e) = rw e (omega (arith, total-at c 7 (omega arith
 one-more c x xs v (eligible e) = rw e (omega (arith, total-none c))
 
 -- THE NINE COUNTS AND THE ELIGIBLE MODELS TOGETHER ARE THE RECORDS, for every list of records
-pub counts-sum : (p : PolicySnapshot) (q : KernelInput) (ls : List Listed) → total (countsOf (judged p q ls)) + length (eligibles (judged p q ls)) ≡ length (judged p q ls)
+pub counts-sum : (p : PolicySnapshot) (q : KernelInput) (ls : List Listed)
+    → total (countsOf (judged p q ls)) + length (eligibles (judged p q ls)) ≡ length (judged p q ls)
 unfolding countsOf countsFrom raisedBy
 counts-sum p q [] = refl
 counts-sum p q (l ∷ ls) =

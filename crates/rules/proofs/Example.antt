@@ -1,13 +1,7 @@
 -- Document 01's example in literal bytes, and short names for the answers that its rows tell. Assumes nothing.
-use Prim.Native.Nat.{ℕ, _+_}
-use mathlib.Core.Bool.{Bool}
-use mathlib.Core.List.{List, [], _∷_, _++_}
-use mathlib.Core.Option.{Option, none}
-use lib.IntN.{ℤ, pos}
-use lib.ListN.{length, take, drop, replicate}
-use Rattle.rules.specs.Refused.{noFault, Answer, answered}
-use Rattle.rules.specs.Numbers.{Decision, DecisionAndTrace, Entry, Boundary}
-use Rattle.rules.specs.declared.decision.RejectionHistogram.{RejectionHistogram}
+use Rattle.rules.proofs.Kit.{ℕ, _+_, Bool, List, [], _∷_, _++_, Option, none, ℤ, pos, length, take, drop, replicate}
+use Rattle.rules.specs.{Refused.noFault, Refused.Answer, Refused.answered, Numbers.Decision, Numbers.DecisionAndTrace, Numbers.Entry, Numbers.Boundary}
+use Rattle.rules.specs.{declared.decision.RejectionHistogram.RejectionHistogram}
 
 -- the two models, the policy and the request
 abbrev pub modelOne : List ℕ
@@ -71,8 +65,8 @@ decision a b c d e f g h i j k l m =
       place = e;
       cost = f;
       utility = g;
-      other = h;
-      otherUtility = i;
+      counterfactual = h;
+      counterfactualUtility = i;
       evaluated = j;
       eligible = k;
       policyEpoch = l;

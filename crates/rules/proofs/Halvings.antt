@@ -1,17 +1,10 @@
 -- Laws of the halving, over the side and over any test p: its steps, what a search answers by cases, and how many passes it takes. Assumes nothing.
-use mathlib.Core.Path.{_≡_, refl, sym, ap, _∙_}
-use mathlib.Core.Bool.{Bool, true, false}
-use Prim.Native.Nat.{ℕ, zero, suc, _+_, _-_, _/_, _^_, _≤_, _<_}
-use native.Mathlib.Nat.{two-pow-succ}
-use native.Mathlib.Decide.{decLt}
-use native.Mathlib.Omega.{arith}
-use mir.Syntax.{w64}
-use mir.Val.{Fits}
-use borrow.Author.Tests.{lt-ltb, le-ltb}
-use Rattle.rules.specs.declared.boundary.Bound.{Bound}
-use Rattle.rules.specs.declared.boundary.Bound.the-variants.{At, Nothing}
-use Rattle.rules.specs.Halving.{Side, Lowest, Highest, firstTried, middle, keptLow, keptHigh, Halved, onePass, halveIn, halve, passesOf, searchOf, farEnd, laterBy, searchAfterFarEnd}
-use Rattle.rules.specs.Levers.{plain}
+use Rattle.rules.proofs.Kit.{_≡_, refl, sym, ap, _∙_, Bool, true, false, ℕ, zero, suc, _+_, _-_, _/_, _^_, _≤_, _<_, two-pow-succ, decLt, arith, lt-ltb}
+use Rattle.rules.proofs.Kit.{le-ltb}
+use Rattle.rules.specs.{declared.boundary.Bound.Bound, declared.boundary.Bound.the-variants.At, declared.boundary.Bound.the-variants.Nothing}
+use Rattle.rules.specs.{Halving.Side, Halving.Lowest, Halving.Highest, Halving.firstTried, Halving.middle, Halving.keptLow, Halving.keptHigh}
+use Rattle.rules.specs.{Halving.Halved, Halving.onePass, Halving.halveIn, Halving.halve, Halving.passesOf, Halving.searchOf, Halving.farEnd}
+use Rattle.rules.specs.{Halving.laterBy, Halving.searchAfterFarEnd, Levers.plain}
 
 -- a test holds or not, and the equation is kept
 pub data Truth (b : Bool) : Type 0 where
@@ -22,14 +15,17 @@ pub truth : (b : Bool) → Truth b
 truth true = is refl
 truth false = isnt refl
 
--- the half that is kept is a part of the range, and at most half as wide
-record Kept (s : Side) (b : Bool) (low high : ℕ) : Type 0 where
-  lower : low ≤ keptLow s b low (middle s low high)
-  ordered : keptLow s b low (middle s low high) ≤ keptHigh s b (middle s low high) high
-  upper : keptHigh s b (middle s low high) high ≤ high
-  narrow : keptHigh s b (middle s low high) high - keptLow s b low (middle s low high) ≤ (high - low) / 2
+-- THE HALF THAT IS KEPT, from a to z, is a part of the range and at most half as wide
+pub record Kept (low high mid a z : ℕ) : Type 0 where
+  pub mid-low : low ≤ mid
+  pub mid-high : mid ≤ high
+  pub lower : low ≤ a
+  pub ordered : a ≤ z
+  pub upper : z ≤ high
+  pub narrow : z - a ≤ (high - low) / 2
 
-kept : (s : Side) (b : Bool) (low high : ℕ) → low < high → Kept s b low high
+pub kept : (s : Side) (b : Bool) (low high : ℕ) → low < high
+    → Kept low high (middle s low high) (keptLow s b low (middle s low high)) (keptHigh s b (middle s low high) high)
 kept Lowest true low high h = omega arith
 kept Lowest false low high h = omega arith
 kept Highest true low high h = omega arith
@@ -42,7 +38,8 @@ module _ (s : Side) (p : ℕ → Bool) where
   in-end zero low high h = refl
   in-end (suc d) low high h = rw (le-ltb low high h)
 
-  in-step : (d low high : ℕ) (b : Bool) → low < high → p (middle s low high) ≡ b → halveIn s p (suc d) low high ≡ onePass (halveIn s p d (keptLow s b low (middle s low high)) (keptHigh s b (middle s low high) high))
+  in-step : (d low high : ℕ) (b : Bool) → low < high → p (middle s low high) ≡ b
+      → halveIn s p (suc d) low high ≡ onePass (halveIn s p d (keptLow s b low (middle s low high)) (keptHigh s b (middle s low high) high))
   unfolding halveIn
   in-step d low high b h e = rw (lt-ltb low high h, e)
 
@@ -52,7 +49,8 @@ module _ (s : Side) (p : ℕ → Bool) where
   fuel (suc d) zero low high hd he = in-end (suc d) low high (omega arith) ∙ sym (in-end zero low high (omega arith))
   fuel (suc d) (suc e) low high hd he = go (decLt low high) (λ a b. fuel d e a b)
     where
-      go : Dec (low < high) → ((a b : ℕ) → b ≤ a + d → b ≤ a + e → halveIn s p d a b ≡ halveIn s p e a b) → halveIn s p (suc d) low high ≡ halveIn s p (suc e) low high
+      go : Dec (low < high) → ((a b : ℕ) → b ≤ a + d → b ≤ a + e → halveIn s p d a b ≡ halveIn s p e a b)
+          → halveIn s p (suc d) low high ≡ halveIn s p (suc e) low high
       go (yes h) ih =
           let k = kept s (p (middle s low high)) low high h in
           in-step d low high _ h refl ∙ ap onePass (ih _ _ (omega arith) (omega arith)) ∙ sym (in-step e low high _ h refl)
@@ -62,7 +60,8 @@ module _ (s : Side) (p : ℕ → Bool) where
   pub halve-end : (low high : ℕ) → high ≤ low → halve s p low high ≡ record { at = low; passes = 0 }
   halve-end low high h = in-end (high - low) low high h
 
-  pub halve-step : (low high : ℕ) (b : Bool) → low < high → p (middle s low high) ≡ b → halve s p low high ≡ onePass (halve s p (keptLow s b low (middle s low high)) (keptHigh s b (middle s low high) high))
+  pub halve-step : (low high : ℕ) (b : Bool) → low < high → p (middle s low high) ≡ b
+      → halve s p low high ≡ onePass (halve s p (keptLow s b low (middle s low high)) (keptHigh s b (middle s low high) high))
   halve-step low high b h e =
       let k = kept s b low high h in
       fuel (high - low) (suc (high - low)) low high (omega arith) (omega arith)
@@ -70,7 +69,8 @@ module _ (s : Side) (p : ℕ → Bool) where
       ∙ ap onePass (fuel _ _ _ _ (omega arith) (omega arith))
 
   -- the same, where the middle m is computed in another way
-  pub halve-at : (low high : ℕ) {m : ℕ} (b : Bool) → low < high → m ≡ middle s low high → p m ≡ b → halve s p low high ≡ onePass (halve s p (keptLow s b low m) (keptHigh s b m high))
+  pub halve-at : (low high : ℕ) {m : ℕ} (b : Bool) → low < high → m ≡ middle s low high → p m ≡ b
+      → halve s p low high ≡ onePass (halve s p (keptLow s b low m) (keptHigh s b m high))
   halve-at low high b h q e = rw q (halve-step low high b h (rw q at e))
 
   -- at most k halvings where the width is below 2 ^ k
@@ -86,10 +86,6 @@ module _ (s : Side) (p : ℕ → Bool) where
           omega (arith, ap (λ (r : Halved). r .passes) (halve-step low high (p m) l refl))
       go (no l) ih = omega (arith, ap (λ (r : Halved). r .passes) (halve-end low high (omega arith)))
 
-  -- so over 64 bits a pass more can be counted
-  pub counts : (low high : ℕ) {r : Halved} → r ≡ halve s p low high → high < 2 ^ 64 → Fits w64 (r .passes + 1)
-  counts low high e h = omega (arith, ap (λ (r : Halved). r .passes) e, halve-passes 64 low high (omega arith))
-
 module _ (s : Side) (p : ℕ → Bool) where
   -- what a search answers, by cases
   pub search-empty : (low high : ℕ) → high < low → searchOf s p low high ≡ Nothing 0
@@ -100,15 +96,18 @@ module _ (s : Side) (p : ℕ → Bool) where
   unfolding searchOf
   search-no low high h e = rw (le-ltb high low h, e)
 
-  pub search-yes : (low high : ℕ) → low ≤ high → p (firstTried s low high) ≡ true → searchOf s p low high ≡ At (halve s p low high .at) (halve s p low high .passes + 1)
+  pub search-yes : (low high : ℕ) → low ≤ high → p (firstTried s low high) ≡ true
+      → searchOf s p low high ≡ At (halve s p low high .at) (halve s p low high .passes + 1)
   unfolding searchOf
   search-yes low high h e = rw (le-ltb high low h, e)
 
   -- an answer At comes from a first end that wins
-  pub search-came : (low high b n : ℕ) → searchOf s p low high ≡ At b n → (low ≤ high) × (p (firstTried s low high) ≡ true) × (b ≡ halve s p low high .at) × (n ≡ halve s p low high .passes + 1)
+  pub search-came : (low high b n : ℕ) → searchOf s p low high ≡ At b n
+      → (low ≤ high) × (p (firstTried s low high) ≡ true) × (b ≡ halve s p low high .at) × (n ≡ halve s p low high .passes + 1)
   search-came low high b n e = go (decLt high low) (truth (p (firstTried s low high)))
     where
-      go : Dec (high < low) → Truth (p (firstTried s low high)) → (low ≤ high) × (p (firstTried s low high) ≡ true) × (b ≡ halve s p low high .at) × (n ≡ halve s p low high .passes + 1)
+      go : Dec (high < low) → Truth (p (firstTried s low high))
+          → (low ≤ high) × (p (firstTried s low high) ≡ true) × (b ≡ halve s p low high .at) × (n ≡ halve s p low high .passes + 1)
       go (yes h) t = let z : _≡_ {A = ℕ} 0 1 = cc (search-empty low high h) in absurd (omega arith)
       go (no h) (is q) = let l : low ≤ high = omega arith in let y = search-yes low high l q in (l, q, (cc), (cc))
       go (no h) (isnt q) = let l : low ≤ high = omega arith in let z : _≡_ {A = ℕ} 0 1 = cc (search-no low high l q) in absurd (omega arith)
@@ -138,6 +137,18 @@ module _ (s : Side) (p : ℕ → Bool) where
   pub margin-some : (low high : ℕ) → p (farEnd s low high) ≡ false → searchAfterFarEnd s p low high ≡ laterBy 1 (searchOf s p low high)
   unfolding searchAfterFarEnd
   margin-some low high e = rw e
+
+  -- and so many passes, one more
+  pub far-few : (k low high : ℕ) {r : Bound} → r ≡ searchAfterFarEnd s p low high → high < low + 2 ^ k → passesOf r ≤ 2 + k
+  far-few k low high {r} e w = go (truth (p (farEnd s low high)))
+    where
+      later : (b : Bound) → passesOf (laterBy 1 b) ≡ passesOf b + 1
+      later (At b n) = refl
+      later (Nothing n) = refl
+
+      go : Truth (p (farEnd s low high)) → passesOf r ≤ 2 + k
+      go (is f) = omega (arith, ap passesOf (e ∙ margin-none low high f))
+      go (isnt f) = omega (arith, ap passesOf (e ∙ margin-some low high f), later (searchOf s p low high), few k low high {r = searchOf s p low high} refl w)
 
 -- A LEVER'S PASSES ARE ITS SEARCH'S
 pub plain-passes : (lever current : ℕ) (r : Bound) → plain lever current r .passes ≡ passesOf r

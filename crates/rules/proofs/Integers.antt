@@ -1,9 +1,5 @@
 -- The difference of two numbers as an integer: by their order, and as the difference of integers. Assumes nothing.
-use mathlib.Core.Path.{_≡_, refl, sym, ap, _∙_}
-use Prim.Native.Nat.{ℕ, zero, suc, zero-le, _-_, _≤_, _<_}
-use native.Mathlib.Omega.{arith}
-use borrow.Author.Tests.{lt-ltb, le-ltb}
-use lib.IntN.{pos, negsuc, subℕ, _-ℤ_}
+use Rattle.rules.proofs.Kit.{_≡_, refl, sym, ap, _∙_, ℕ, zero, suc, zero-le, _-_, _≤_, _<_, arith, lt-ltb, le-ltb, pos, negsuc, subℕ, _-ℤ_}
 
 pub sub-below : (a b : ℕ) → a < b → subℕ a b ≡ negsuc (b - suc a)
 sub-below a b h = simp (lt-ltb a b h)

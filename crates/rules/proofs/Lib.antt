@@ -1,5 +1,7 @@
 -- Rows and vectors of document 01, by computation, and the laws that code proofs cite.
+pub mod Kit
 pub mod Choices
+pub mod Stopped
 pub mod Orders
 pub mod Integers
 pub mod Faults
@@ -10,10 +12,11 @@ pub mod ToldVerdicts
 pub mod Verdicts
 pub mod Reasons
 pub mod Counts
-pub mod Layouts
 pub mod Halvings
 pub mod Strict
+pub mod Sorted
 pub mod Better
+pub mod Chunks
 pub mod Example
 pub mod Literals
 pub mod Opened

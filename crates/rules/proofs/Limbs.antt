@@ -1,9 +1,6 @@
 -- A number and its two limbs. Assumes nothing.
-use Prim.Native.Nat.{ℕ, _+_, _*_, _/_, _%_, _<_, _^_}
-use mathlib.Core.Path.{_≡_}
-use native.Mathlib.Omega.{arith}
-use Rattle.rules.specs.Wide.{limbs, val, wideOf}
-use Rattle.rules.specs.declared.wide.Wide.{Wide}
+use Rattle.rules.proofs.Kit.{ℕ, _+_, _*_, _/_, _%_, _<_, _^_, _≡_, arith}
+use Rattle.rules.specs.{Wide.limbs, Wide.val, Wide.wideOf, declared.wide.Wide.Wide}
 
 -- a number's limbs say it
 pub wide-val : (n : ℕ) → val (wideOf n) ≡ n

@@ -1,43 +1,36 @@
 -- Every rule opened, for the rows to compute: `unfolding rules` opens all that the lines below name. Assumes nothing.
-use Rattle.rules.specs.Choice.{below, atLeast, equal, lower, higher}
-use Rattle.rules.specs.Bytes.{number, bytesOf, packed, filled}
-use Rattle.rules.specs.Records.{modelOf, modelBytes, inputOf, inputBytes, policyOf, policyInBytes, listedOf}
-use Rattle.rules.specs.Stored.{fieldBytes, fits, bodyOf, afterOf, fieldFaults, formFaults, storedForm}
-use Rattle.rules.specs.Stored.{requestForm}
-use Rattle.rules.specs.Stored.{writeFaults, writeStoredOf, writeStoredBuffer, readFaults, readStoredOf}
-use Rattle.rules.specs.Stored.{readStoredBuffer, writeRequestOf, writeRequestBuffer, readRequestOf}
-use Rattle.rules.specs.Refused.{lengthFaults, roomFaults}
-use Rattle.rules.specs.Listing.{readingFaults, readingOf, recordOf, recordStart, firstListed, findOf}
-use Rattle.rules.specs.Decide.{requestFaults, requestCheck}
-use Rattle.rules.specs.Validate.{policyFaults, emptyFaults, repeatFaults, providerFaults, modelFaults, recordFaults}
-use Rattle.rules.specs.Validate.{recordsFaults, offFaults, catalogFaults, validateOf}
-use Rattle.rules.specs.Trust.{reservedFaults, flagFaults, earlyFaults, recordsFrom, joined, insertBy, sortedBy, idOf, orderedOf, trustOf, trustBank}
-use Rattle.rules.specs.Gates.{gateOf, detailOf}
-use Rattle.rules.specs.Price.{billed, costOf, scaledPrice}
-use Rattle.rules.specs.Utility.{shareOf, qualityTermOf, riskTermOf, latencyTermOf, exactUtilityOf, utilityOf}
-use Rattle.rules.specs.Verdict.{pricedOf, verdictOf}
-use Rattle.rules.specs.Rank.{better, ranking}
-use Rattle.rules.specs.Count.{gateReason, countedFor, raisedBy, countsFrom, countsOf, heavier, dominantOf}
-use Rattle.rules.specs.Decide.{stoppedBy, rejection, executedAs, chosen, decidedOf, decisionOf, countsIn, traceOf}
-use Rattle.rules.specs.Decide.{prescribeOf, prescribeCheckedOf, prescribeTracedOf, prescribeTracedCheckedOf, utilityIn, utilityForModelOf}
-use Rattle.rules.specs.Explain.{explanationRecord, explained, explanationOf, explainFaults, explainOf}
-use Rattle.rules.specs.Explain.{explainList, verdictAt, eligibleFrom, nextEligibleOf}
-use Rattle.rules.specs.Batch.{batchFaults, requestsFaults, batchCheckedFaults, decisionsOf, batchOf, batchRow, batchCheckedOf, batchCheckedRow}
-use Rattle.rules.specs.Halving.{halveIn, searchOf, searchAfterFarEnd}
-use Rattle.rules.specs.Levers.{leverAt, selects, varied, decisionAt, wins, boundaryOf}
-use Rattle.rules.specs.View.{withModel, viewOf}
-use Rattle.rules.specs.Win.{winLevers, winSearch, winFor, winIn, whatWouldWinOf}
-use Rattle.rules.specs.Margin.{marginLevers, marginFor, marginIn, decisionMarginOf}
-use Rattle.rules.specs.Text.{text, digitsOf, decimal, signedDecimal, spaced, line}
-use Rattle.rules.specs.Printed.{decisionLine, countsLine, costText, leverLine, leverLines, passesLine, refusedLine}
-use Rattle.rules.specs.Printed.{programFaults, unitReport, unitText, askFaults, askReport, askText, printOf, printBuffer}
-use Rattle.rules.specs.Words.{sentence, digit, percent, riseWords, latencyWords, costWords, priceWords, switchWords, leverWords, leversWords}
-use Rattle.rules.specs.Words.{stoppedWords, chosenWords, offWords, noneWords, nothingWords, wordsReport, askWords}
+use Rattle.rules.specs.{Choice.below, Choice.atLeast, Choice.equal, Choice.lower, Choice.higher, Bytes.number, Bytes.bytesOf, Bytes.packed, Bytes.filled}
+use Rattle.rules.specs.{Records.modelOf, Records.inputOf, Records.policyOf, Records.listedOf, Stored.fieldBytes, Stored.fits, Stored.bodyOf}
+use Rattle.rules.specs.{Stored.afterOf, Stored.fieldFaults, Stored.formFaults, Stored.storedForm, Stored.requestForm, Stored.writeFaults}
+use Rattle.rules.specs.{Stored.writeStoredOf, Stored.writeStoredBuffer, Stored.readFaults, Stored.readStoredOf, Stored.readStoredBuffer}
+use Rattle.rules.specs.{Stored.writeRequestOf, Stored.writeRequestBuffer, Stored.readRequestOf, Refused.firstFault, Refused.lengthFaults}
+use Rattle.rules.specs.{Refused.roomFaults, Listing.readingFaults, Listing.readingOf, Listing.recordOf, Listing.recordStart, Listing.firstListed}
+use Rattle.rules.specs.{Listing.findOf, Decide.requestFaults, Decide.requestCheck, Validate.policyFaults, Validate.emptyFaults, Validate.repeatFaults}
+use Rattle.rules.specs.{Validate.providerFaults, Validate.modelFaults, Validate.recordFaults, Validate.recordsFaults, Validate.offFaults}
+use Rattle.rules.specs.{Validate.catalogFaults, Validate.validateOf, Trust.reservedFaults, Trust.flagFaults, Trust.earlyFaults, Trust.recordsFrom}
+use Rattle.rules.specs.{Trust.joined, Trust.idOf, Trust.orderedOf, Trust.trustOf, Trust.trustBank, Gates.gateOf, Gates.detailOf, Price.billed}
+use Rattle.rules.specs.{Price.costOf, Price.scaledPrice, Utility.shareOf, Utility.qualityTermOf, Utility.riskTermOf, Utility.latencyTermOf}
+use Rattle.rules.specs.{Utility.exactUtilityOf, Utility.utilityOf, Verdict.byUtility, Verdict.verdictOf, Rank.better, Rank.ranking, Count.gateReason}
+use Rattle.rules.specs.{Count.countedFor, Count.raisedBy, Count.countsFrom, Count.countsOf, Count.heavier, Count.dominantOf, Decide.stoppedBy}
+use Rattle.rules.specs.{Decide.rejection, Decide.executedAs, Decide.chosen, Decide.byVerdicts, Decide.decisionOf, Decide.countsIn, Decide.traceOf}
+use Rattle.rules.specs.{Decide.prescribeOf, Decide.prescribeCheckedOf, Decide.prescribeTracedOf, Decide.prescribeTracedCheckedOf, Decide.utilityIn}
+use Rattle.rules.specs.{Decide.utilityForModelOf, Explain.explanationRecord, Explain.explained, Explain.explanationOf, Explain.explainFaults}
+use Rattle.rules.specs.{Explain.explainOf, Explain.explainList, Explain.verdictAt, Explain.eligibleFrom, Explain.nextEligibleOf, Batch.batchFaults}
+use Rattle.rules.specs.{Batch.requestsFaults, Batch.batchCheckedFaults, Batch.decisionsOf, Batch.batchOf, Batch.batchRow, Batch.batchCheckedOf}
+use Rattle.rules.specs.{Batch.batchCheckedRow, Halving.halveIn, Halving.searchOf, Halving.searchAfterFarEnd, Levers.leverAt, Levers.selects}
+use Rattle.rules.specs.{Levers.varied, Levers.decisionAt, Levers.wins, Levers.boundaryOf, View.withModel, View.viewOf, Win.winLevers, Win.winSearch}
+use Rattle.rules.specs.{Win.winFor, Win.winIn, Win.whatWouldWinOf, Margin.marginLevers, Margin.marginFor, Margin.marginIn, Margin.decisionMarginOf}
+use Rattle.rules.specs.{Text.text, Text.digitsOf, Text.decimal, Text.signedDecimal, Text.spaced, Text.line, Printed.decisionLine, Printed.countsLine}
+use Rattle.rules.specs.{Printed.costText, Printed.leverLine, Printed.leverLines, Printed.passesLine, Printed.refusedLine, Printed.programFaults}
+use Rattle.rules.specs.{Printed.unitReport, Printed.unitText, Printed.askFaults, Printed.askReport, Printed.askText, Printed.printOf, Printed.printBuffer}
+use Rattle.rules.specs.{Words.sentence, Words.digit, Words.percent, Words.riseWords, Words.latencyWords, Words.costWords, Words.priceWords}
+use Rattle.rules.specs.{Words.switchWords, Words.leverWords, Words.leversWords, Words.stoppedWords, Words.chosenWords, Words.offWords, Words.noneWords}
+use Rattle.rules.specs.{Words.nothingWords, Words.wordsReport, Words.askWords}
 
 -- ---- bytes: numbers, records, banks
 
 bytes : Unit {0}
-unfolding below atLeast equal lower higher number bytesOf packed filled modelOf modelBytes inputOf inputBytes policyOf policyInBytes listedOf
+unfolding below atLeast equal lower higher number bytesOf packed filled modelOf inputOf policyOf listedOf
 bytes = tt
 
 forms : Unit {0}
@@ -51,7 +44,7 @@ writing = tt
 -- ---- numbers handed back: of a bank, a request, a catalogue
 
 refusing : Unit {0}
-unfolding lengthFaults roomFaults readingFaults readingOf recordOf recordStart firstListed findOf requestFaults requestCheck
+unfolding firstFault lengthFaults roomFaults readingFaults readingOf recordOf recordStart firstListed findOf requestFaults requestCheck
 refusing = tt
 
 validating : Unit {0}
@@ -59,13 +52,13 @@ unfolding policyFaults emptyFaults repeatFaults providerFaults modelFaults recor
 validating = tt
 
 trusting : Unit {0}
-unfolding reservedFaults flagFaults earlyFaults recordsFrom joined insertBy sortedBy idOf orderedOf trustOf trustBank
+unfolding reservedFaults flagFaults earlyFaults recordsFrom joined idOf orderedOf trustOf trustBank
 trusting = tt
 
 -- ---- deciding: one record, the list of them, the calls
 
 judging : Unit {0}
-unfolding gateOf detailOf billed costOf scaledPrice shareOf qualityTermOf riskTermOf latencyTermOf exactUtilityOf utilityOf pricedOf verdictOf
+unfolding gateOf detailOf billed costOf scaledPrice shareOf qualityTermOf riskTermOf latencyTermOf exactUtilityOf utilityOf byUtility verdictOf
 judging = tt
 
 ordering : Unit {0}
@@ -73,7 +66,7 @@ unfolding better ranking gateReason countedFor raisedBy countsFrom countsOf heav
 ordering = tt
 
 deciding : Unit {0}
-unfolding stoppedBy rejection executedAs chosen decidedOf decisionOf countsIn traceOf
+unfolding stoppedBy rejection executedAs chosen byVerdicts decisionOf countsIn traceOf
 deciding = tt
 
 prescribing : Unit {0}

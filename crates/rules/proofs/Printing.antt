@@ -1,22 +1,13 @@
 -- Rows on the stored form, the request form, and what the programs print. Assumes nothing.
-use Prim.Native.Nat.{ℕ, _*_}
+use Rattle.rules.proofs.Kit.{ℕ, _*_, refl, List, [], _∷_, _++_, none, some, pos, negsuc, length, replicate, take}
 use Prim.Native.String.{String}
-use mathlib.Core.Path.{_≡_, refl}
-use mathlib.Core.List.{List, [], _∷_, _++_}
-use mathlib.Core.Option.{none, some}
-use lib.IntN.{pos, negsuc}
-use lib.ListN.{length, replicate, take}
-use Rattle.rules.specs.Bytes.{bytesOf}
-use Rattle.rules.specs.Records.{policyOf, inputOf}
-use Rattle.rules.specs.Refused.{Answer, refused, answered, fault}
-use Rattle.rules.specs.Numbers.{StoredPolicy}
-use Rattle.rules.specs.Stored.{writeStoredOf, writeStoredBuffer, readStoredOf, readStoredBuffer, writeRequestOf, writeRequestBuffer, readRequestOf}
-use Rattle.rules.specs.Text.{text, decimal}
-use Rattle.rules.specs.Printed.{decisionLine, countsLine, unitText, askText, printOf, printBuffer}
-use Rattle.rules.specs.Words.{leversWords, noneWords, askWords}
-use Rattle.rules.proofs.Opened.{rules}
-use Rattle.rules.proofs.Rows.{row, Named, Row, says}
-use Rattle.rules.proofs.Example.{modelOne, modelTwo, bank, policy, request, with, uneven, atHardLimit, decision, counts, lever}
+use Rattle.rules.specs.{Bytes.bytesOf, Records.policyOf, Records.inputOf, Refused.Answer, Refused.refused, Refused.answered, Refused.fault}
+use Rattle.rules.specs.{Numbers.StoredPolicy, Stored.writeStoredOf, Stored.writeStoredBuffer, Stored.readStoredOf, Stored.readStoredBuffer}
+use Rattle.rules.specs.{Stored.writeRequestOf, Stored.writeRequestBuffer, Stored.readRequestOf, Text.text, Text.decimal, Printed.decisionLine}
+use Rattle.rules.specs.{Printed.countsLine, Printed.unitText, Printed.askText, Printed.printOf, Printed.printBuffer, Words.leversWords, Words.noneWords}
+use Rattle.rules.specs.{Words.askWords}
+use Rattle.rules.proofs.{Opened.rules, Rows.Row, Rows.says, Example.modelOne, Example.modelTwo, Example.bank, Example.policy, Example.request}
+use Rattle.rules.proofs.{Example.with, Example.uneven, Example.atHardLimit, Example.decision, Example.counts, Example.lever}
 
 -- the example's three fields
 abbrev policyField : List ℕ

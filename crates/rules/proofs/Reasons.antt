@@ -1,14 +1,6 @@
 -- The reason that each gate counts for. Assumes nothing.
-use Prim.Native.Nat.{ℕ, zero, suc, _<_, _≤_}
-use native.Mathlib.Nat.{eq-or-lt-of-le}
-use native.Mathlib.Omega.{arith}
-use mathlib.Core.Path.{_≡_}
-use mathlib.Core.Logic.{_⊎_, inl, inr, ⊎-elim}
-use mathlib.Core.List.{[], _∷_}
-use lib.ListN.{List·getD-eq-default}
-use Rattle.rules.specs.Count.{gateReason}
-use Rattle.rules.specs.Numbers.{reasonNo}
-use Rattle.rules.specs.declared.decision.KernelReason.{KernelReason}
+use Rattle.rules.proofs.Kit.{ℕ, zero, suc, _<_, _≤_, eq-or-lt-of-le, arith, _≡_, _⊎_, inl, inr, ⊎-elim, [], _∷_, List·getD-eq-default}
+use Rattle.rules.specs.{Count.gateReason, Numbers.reasonNo, declared.decision.KernelReason.KernelReason}
 use Rattle.rules.specs.declared.decision.KernelReason.the-variants as reason
 
 -- A number that is at least another and not that one is above it

@@ -1,16 +1,9 @@
 -- Rows: a name, what a rule gives, what it is to give, and that the two are the same; and the questions that rows ask, of a bank, a policy
 -- and a request in bytes. Assumes nothing.
-use Prim.Native.Nat.{ℕ}
+use Rattle.rules.proofs.Kit.{ℕ, _≡_, ap, List, [], _∷_}
 use Prim.Native.String.{String}
-use mathlib.Core.Path.{_≡_, ap}
-use mathlib.Core.List.{List, [], _∷_}
-use Rattle.rules.specs.Records.{inputOf, policyOf}
-use Rattle.rules.specs.Refused.{Answer}
-use Rattle.rules.specs.Numbers.{Decision, DecisionAndTrace, Boundary}
-use Rattle.rules.specs.Decide.{prescribeTracedOf}
-use Rattle.rules.specs.Explain.{explainOf, explainList}
-use Rattle.rules.specs.Win.{whatWouldWinOf}
-use Rattle.rules.specs.Margin.{decisionMarginOf}
+use Rattle.rules.specs.{Records.inputOf, Records.policyOf, Refused.Answer, Numbers.Decision, Numbers.DecisionAndTrace, Numbers.Boundary}
+use Rattle.rules.specs.{Decide.prescribeTracedOf, Explain.explainOf, Explain.explainList, Win.whatWouldWinOf, Margin.decisionMarginOf}
 
 -- A value under the name of its row, so that the prover tells the name where a row fails; files with rows bring in what stands here, so that it
 -- is told in short words

@@ -1,17 +1,11 @@
 -- THE TABLE: document 01's rows (A) to (K), from literal bytes, hold by computation from the rules. Each stands alone, so that every one that
 -- fails is told. Assumes nothing.
-use Prim.Native.Nat.{ℕ}
-use mathlib.Core.Path.{_≡_, refl}
-use mathlib.Core.Bool.{false}
-use mathlib.Core.List.{List, [], _∷_, _++_}
-use mathlib.Core.Option.{none, some}
-use lib.IntN.{pos}
-use lib.ListN.{replicate}
+use Rattle.rules.proofs.Kit.{ℕ, refl, false, List, [], _∷_, _++_, none, some, pos, replicate}
 use Rattle.rules.specs.Refused.{answered}
-use Rattle.rules.proofs.Opened.{rules}
-use Rattle.rules.proofs.Rows.{row, Named, Row, says, All, all-hold, decided, explained, wouldWin, margin}
-use Rattle.rules.proofs.Example.{bank, modelOne, modelTwo, policy, request, with, atHardLimit, unsure, valueless}
-use Rattle.rules.proofs.Example.{decision, choice, rejected, counts, noCounts, counted, lever, noLever, boundary}
+use Rattle.rules.proofs.{Opened.rules, Rows.Row, Rows.says, Rows.All, Rows.all-hold, Rows.decided, Rows.explained, Rows.wouldWin, Rows.margin}
+use Rattle.rules.proofs.{Example.bank, Example.modelOne, Example.modelTwo, Example.policy, Example.request, Example.with, Example.atHardLimit}
+use Rattle.rules.proofs.{Example.unsure, Example.valueless, Example.decision, Example.choice, Example.rejected, Example.counts, Example.noCounts}
+use Rattle.rules.proofs.{Example.counted, Example.lever, Example.noLever, Example.boundary}
 
 -- (A)'s explanation: two eligible records, with quality, risk, cost, latency and utility
 abbrev explanation : List ℕ

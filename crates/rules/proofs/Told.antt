@@ -1,36 +1,23 @@
 -- What document 01 tells of an answer determines the answer: every `told..` of specs/Numbers.antt has a way back. Assumes nothing.
-use Prim.Native.Nat.{ℕ, _-_}
-use mathlib.Core.Path.{_≡_, refl, sym, ap, ap₂, _∙_}
-use mathlib.Core.List.{List, [], _∷_, map}
-use mathlib.Core.Option.{Option, none, some}
-use lib.IntN.{ℤ}
-use lib.ListN.{getD}
-use Rattle.rules.specs.Refused.{Fault, toldRefusal, toldOutcome, toldTrusted, Answer, refused, answered}
-use Rattle.rules.specs.Numbers.{actionNo, reasonNo, Decision, toldDecision, toldPrescribed, DecisionAndTrace, toldTraced, toldUtility, toldFound, toldNext, Entry, toldCost, toldEntry, Boundary, toldBoundaries}
-use Rattle.rules.specs.declared.refusal.Refusal.{Refusal}
+use Rattle.rules.proofs.Kit.{ℕ, _-_, _≡_, refl, sym, ap, ap₂, _∙_, List, [], _∷_, map, Option, none, some, ℤ, getD}
+use Rattle.rules.specs.{Refused.Fault, Refused.toldRefusal, Refused.toldOutcome, Refused.toldTrusted, Refused.Answer, Refused.refused, Refused.answered}
+use Rattle.rules.specs.{Numbers.actionNo, Numbers.reasonNo, Numbers.Decision, Numbers.toldDecision, Numbers.toldPrescribed, Numbers.DecisionAndTrace}
+use Rattle.rules.specs.{Numbers.toldTraced, Numbers.toldUtility, Numbers.toldFound, Numbers.toldNext, Numbers.Entry, Numbers.toldCost, Numbers.toldEntry}
+use Rattle.rules.specs.{Numbers.Boundary, Numbers.toldBoundaries, declared.refusal.Refusal.Refusal, declared.refusal.Outcome.Outcome}
+use Rattle.rules.specs.{declared.refusal.Trusted.Trusted, declared.decision.KernelAction.KernelAction, declared.decision.KernelReason.KernelReason}
+use Rattle.rules.specs.{declared.decision.KernelDecision.KernelDecision, declared.decision.Prescribed.Prescribed, declared.decision.Traced.Traced}
+use Rattle.rules.specs.{declared.decision.UtilityFound.UtilityFound, declared.decision.Found.Found, declared.verdict.NextEligible.NextEligible}
+use Rattle.rules.specs.{declared.boundary.BoundaryCost.BoundaryCost, declared.boundary.Requirement.Requirement, declared.boundary.Boundaries.Boundaries}
 use Rattle.rules.specs.declared.refusal.Refusal.the-variants as refusal
-use Rattle.rules.specs.declared.refusal.Outcome.{Outcome}
 use Rattle.rules.specs.declared.refusal.Outcome.the-variants as outcome
-use Rattle.rules.specs.declared.refusal.Trusted.{Trusted}
-use Rattle.rules.specs.declared.decision.KernelAction.{KernelAction}
 use Rattle.rules.specs.declared.decision.KernelAction.the-variants as action
-use Rattle.rules.specs.declared.decision.KernelReason.{KernelReason}
 use Rattle.rules.specs.declared.decision.KernelReason.the-variants as reason
-use Rattle.rules.specs.declared.decision.KernelDecision.{KernelDecision}
-use Rattle.rules.specs.declared.decision.Prescribed.{Prescribed}
 use Rattle.rules.specs.declared.decision.Prescribed.the-variants as prescribed
-use Rattle.rules.specs.declared.decision.Traced.{Traced}
 use Rattle.rules.specs.declared.decision.Traced.the-variants as traced
-use Rattle.rules.specs.declared.decision.UtilityFound.{UtilityFound}
 use Rattle.rules.specs.declared.decision.UtilityFound.the-variants as utility
-use Rattle.rules.specs.declared.decision.Found.{Found}
 use Rattle.rules.specs.declared.decision.Found.the-variants as found
-use Rattle.rules.specs.declared.verdict.NextEligible.{NextEligible}
 use Rattle.rules.specs.declared.verdict.NextEligible.the-variants as next
-use Rattle.rules.specs.declared.boundary.BoundaryCost.{BoundaryCost}
 use Rattle.rules.specs.declared.boundary.BoundaryCost.the-variants as cost
-use Rattle.rules.specs.declared.boundary.Requirement.{Requirement}
-use Rattle.rules.specs.declared.boundary.Boundaries.{Boundaries}
 
 -- ANY TWO PERMITTED ANSWERS ARE EQUAL: where what is told has a way back, two answers that are told alike are one
 pub one-answer : {A B : Type 0} (told : A → B) (back : B → A) → ((a : A) → back (told a) ≡ a) → (rule : B) (r s : A) → told r ≡ rule → told s ≡ rule → r ≡ s
@@ -38,72 +25,67 @@ one-answer told back way rule r s p q = sym (way r) ∙ ap back (p ∙ sym q) �
 
 -- ---- refusals
 
-abbrev pub outcomeFrom : Fault → Outcome
-outcomeFrom f =
+abbrev pub refusalFrom : Fault → Refusal
+refusalFrom f =
     getD
-    (outcome.Answered
-    ∷ outcome.Refused refusal.UnevenBank
-    ∷ outcome.Refused refusal.CatalogTooLarge
-    ∷ outcome.Refused (refusal.InputOutOfRange (f .field) (f .value) (f .place))
-    ∷ outcome.Refused refusal.NoRoom
-    ∷ outcome.Refused refusal.UnknownModel
-    ∷ outcome.Refused refusal.NothingSelected
-    ∷ outcome.Refused refusal.NotEligible
-    ∷ outcome.Refused refusal.BeyondBank
-    ∷ outcome.Answered
-    ∷ outcome.Refused (refusal.PolicyOutOfRange (f .field) (f .value))
-    ∷ outcome.Refused refusal.EmptyCatalog
-    ∷ outcome.Refused (refusal.DuplicateModelId (f .id))
-    ∷ outcome.Refused (refusal.InvalidProviderId (f .id) (f .value))
-    ∷ outcome.Refused (refusal.ModelOutOfRange (f .field) (f .id) (f .value))
-    ∷ outcome.Refused refusal.NoEnabledModels
-    ∷ outcome.Refused refusal.ReservedModelId
-    ∷ outcome.Refused (refusal.InvalidEnabledFlag (f .id) (f .value))
-    ∷ outcome.Refused refusal.TooManyToStore
-    ∷ outcome.Refused refusal.TooManyForProgram
-    ∷ outcome.Refused refusal.CutShort
-    ∷ outcome.Refused refusal.WrongTag
-    ∷ outcome.Refused refusal.WrongLength
+    (refusal.UnevenBank
+    ∷ refusal.UnevenBank
+    ∷ refusal.CatalogTooLarge
+    ∷ refusal.InputOutOfRange (f .field) (f .value) (f .place)
+    ∷ refusal.NoRoom
+    ∷ refusal.UnknownModel
+    ∷ refusal.NothingSelected
+    ∷ refusal.NotEligible
+    ∷ refusal.BeyondBank
+    ∷ refusal.UnevenBank
+    ∷ refusal.PolicyOutOfRange (f .field) (f .value)
+    ∷ refusal.EmptyCatalog
+    ∷ refusal.DuplicateModelId (f .id)
+    ∷ refusal.InvalidProviderId (f .id) (f .value)
+    ∷ refusal.ModelOutOfRange (f .field) (f .id) (f .value)
+    ∷ refusal.NoEnabledModels
+    ∷ refusal.ReservedModelId
+    ∷ refusal.InvalidEnabledFlag (f .id) (f .value)
+    ∷ refusal.TooManyToStore
+    ∷ refusal.TooManyForProgram
+    ∷ refusal.CutShort
+    ∷ refusal.WrongTag
+    ∷ refusal.WrongLength
     ∷ [])
     (f .number)
-    outcome.Answered
-
-refused-back : (r : Refusal) → outcomeFrom (toldRefusal r) ≡ outcome.Refused r
-refused-back refusal.UnevenBank = refl
-refused-back refusal.CatalogTooLarge = refl
-refused-back (refusal.InputOutOfRange field value place) = refl
-refused-back refusal.NoRoom = refl
-refused-back refusal.UnknownModel = refl
-refused-back refusal.NothingSelected = refl
-refused-back refusal.NotEligible = refl
-refused-back refusal.BeyondBank = refl
-refused-back (refusal.PolicyOutOfRange field value) = refl
-refused-back refusal.EmptyCatalog = refl
-refused-back (refusal.DuplicateModelId id) = refl
-refused-back (refusal.InvalidProviderId id provider) = refl
-refused-back (refusal.ModelOutOfRange field id value) = refl
-refused-back refusal.NoEnabledModels = refl
-refused-back refusal.ReservedModelId = refl
-refused-back (refusal.InvalidEnabledFlag id value) = refl
-refused-back refusal.TooManyToStore = refl
-refused-back refusal.TooManyForProgram = refl
-refused-back refusal.CutShort = refl
-refused-back refusal.WrongTag = refl
-refused-back refusal.WrongLength = refl
-
-pub outcome-back : (o : Outcome) → outcomeFrom (toldOutcome o) ≡ o
-outcome-back outcome.Answered = refl
-outcome-back (outcome.Refused r) = refused-back r
-
-abbrev pub inside : Outcome → Refusal
-inside outcome.Answered = refusal.UnevenBank
-inside (outcome.Refused r) = r
-
-abbrev pub refusalFrom : Fault → Refusal
-refusalFrom f = inside (outcomeFrom f)
+    refusal.UnevenBank
 
 pub refusal-back : (r : Refusal) → refusalFrom (toldRefusal r) ≡ r
-refusal-back r = ap inside (refused-back r)
+refusal-back refusal.UnevenBank = refl
+refusal-back refusal.CatalogTooLarge = refl
+refusal-back (refusal.InputOutOfRange field value place) = refl
+refusal-back refusal.NoRoom = refl
+refusal-back refusal.UnknownModel = refl
+refusal-back refusal.NothingSelected = refl
+refusal-back refusal.NotEligible = refl
+refusal-back refusal.BeyondBank = refl
+refusal-back (refusal.PolicyOutOfRange field value) = refl
+refusal-back refusal.EmptyCatalog = refl
+refusal-back (refusal.DuplicateModelId id) = refl
+refusal-back (refusal.InvalidProviderId id provider) = refl
+refusal-back (refusal.ModelOutOfRange field id value) = refl
+refusal-back refusal.NoEnabledModels = refl
+refusal-back refusal.ReservedModelId = refl
+refusal-back (refusal.InvalidEnabledFlag id value) = refl
+refusal-back refusal.TooManyToStore = refl
+refusal-back refusal.TooManyForProgram = refl
+refusal-back refusal.CutShort = refl
+refusal-back refusal.WrongTag = refl
+refusal-back refusal.WrongLength = refl
+
+abbrev pub outcomeFrom : Option Fault → Outcome
+outcomeFrom none = outcome.Answered
+outcomeFrom (some f) = outcome.Refused (refusalFrom f)
+
+pub outcome-back : (o : Outcome) → outcomeFrom (toldOutcome o) ≡ o
+unfolding toldOutcome
+outcome-back outcome.Answered = refl
+outcome-back (outcome.Refused r) = ap outcome.Refused (refusal-back r)
 
 -- ---- decisions
 
@@ -161,8 +143,8 @@ decisionFrom d =
       «selected_model_index» = d .place;
       «estimated_cost_microunits» = d .cost;
       «expected_utility_microunits» = d .utility;
-      «counterfactual_model_id» = d .other;
-      «counterfactual_utility_microunits» = d .otherUtility;
+      «counterfactual_model_id» = d .counterfactual;
+      «counterfactual_utility_microunits» = d .counterfactualUtility;
       «evaluated_models» = d .evaluated;
       «eligible_models» = d .eligible;
       «policy_epoch» = d .policyEpoch;
@@ -206,7 +188,7 @@ found-back (found.Refused r) = ap found.Refused (refusal-back r)
 found-back (found.At place) = refl
 found-back found.Nowhere = refl
 
-abbrev pub trustedFrom : Fault → Trusted
+abbrev pub trustedFrom : Option Fault → Trusted
 trustedFrom f = record { outcome = outcomeFrom f }
 
 pub trusted-back : (t : Trusted) → trustedFrom (toldTrusted t) ≡ t

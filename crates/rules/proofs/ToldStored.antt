@@ -1,16 +1,12 @@
 -- What document 01 tells of reading and writing a stored form determines the answer, as in `Told`. Assumes nothing.
-use Prim.Native.Nat.{ℕ}
-use mathlib.Core.Path.{_≡_, refl, ap}
-use Rattle.rules.specs.Refused.{Answer, refused, answered}
-use Rattle.rules.specs.Numbers.{StoredPolicy, toldStored, toldRequest, toldWritten}
-use Rattle.rules.specs.declared.records.KernelInput.{KernelInput}
-use Rattle.rules.specs.declared.forms.StoredRead.{StoredRead}
-use Rattle.rules.specs.declared.forms.StoredRead.the-variants as stored
-use Rattle.rules.specs.declared.forms.RequestRead.{RequestRead}
-use Rattle.rules.specs.declared.forms.RequestRead.the-variants as request
-use Rattle.rules.specs.declared.forms.Written.{Written}
-use Rattle.rules.specs.declared.forms.Written.the-variants as written
+use Rattle.rules.proofs.Kit.{ℕ, _≡_, refl, ap}
+use Rattle.rules.specs.{Refused.Answer, Refused.refused, Refused.answered, Numbers.StoredPolicy, Numbers.toldStored, Numbers.toldRequest}
+use Rattle.rules.specs.{Numbers.toldWritten, declared.records.KernelInput.KernelInput, declared.forms.StoredRead.StoredRead}
+use Rattle.rules.specs.{declared.forms.RequestRead.RequestRead, declared.forms.Written.Written}
 use Rattle.rules.proofs.Told.{one-answer, Determined, refusalFrom, refusal-back}
+use Rattle.rules.specs.declared.forms.StoredRead.the-variants as stored
+use Rattle.rules.specs.declared.forms.RequestRead.the-variants as request
+use Rattle.rules.specs.declared.forms.Written.the-variants as written
 
 abbrev pub storedFrom : Answer StoredPolicy → StoredRead
 storedFrom (refused f) = stored.Refused (refusalFrom f)

@@ -1,13 +1,8 @@
 -- What document 01 tells of a verdict determines it, its wide terms being made of limbs. Assumes nothing.
-use Prim.Native.Nat.{_<_, _^_}
-use mathlib.Core.Path.{_≡_, refl}
-use mathlib.Core.List.{[], _∷_}
-use lib.ListN.{getD}
-use Rattle.rules.specs.Wide.{wideOf}
-use Rattle.rules.specs.Numbers.{Verdict, toldVerdict}
+use Rattle.rules.proofs.Kit.{_<_, _^_, _≡_, refl, [], _∷_, getD}
+use Rattle.rules.specs.{Wide.wideOf, Numbers.Verdict, Numbers.toldVerdict, declared.verdict.UtilityTerms.UtilityTerms}
+use Rattle.rules.specs.{declared.verdict.CandidateVerdict.CandidateVerdict}
 use Rattle.rules.proofs.Limbs.{wide-back}
-use Rattle.rules.specs.declared.verdict.UtilityTerms.{UtilityTerms}
-use Rattle.rules.specs.declared.verdict.CandidateVerdict.{CandidateVerdict}
 use Rattle.rules.specs.declared.verdict.CandidateVerdict.the-variants as verdict
 
 -- the low limbs of a verdict's terms are limbs, as those of every value of the type are
@@ -40,7 +35,7 @@ verdictFrom v =
     ∷ verdict.OverBudget (v .first) (v .second)
     ∷ verdict.NonPositiveUtility (termsFrom v)
     ∷ [])
-    (v .verdict)
+    (v .kind)
     (verdict.Eligible (termsFrom v))
 
 pub verdict-back : (v : CandidateVerdict) → InLimbs v → verdictFrom (toldVerdict v) ≡ v

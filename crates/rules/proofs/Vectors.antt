@@ -1,27 +1,16 @@
 -- Rows beyond document 01's, for what those leave open: every field of every layout, each gate and what it measured, the order of the
 -- counts and of the reasons, each key of the ranking, the clamps and the refusals. Assumes nothing.
-use Prim.Native.Nat.{ℕ, zero, suc, _+_, _-_, _*_, _^_}
-use mathlib.Core.Path.{_≡_, refl}
-use mathlib.Core.List.{List, [], _∷_, _++_, map}
-use mathlib.Core.Option.{none, some}
-use lib.IntN.{ℤ, pos, negsuc}
-use lib.ListN.{replicate}
-use Rattle.rules.specs.Records.{modelOf, modelBytes, inputOf, inputBytes, policyOf, policyInBytes}
-use Rattle.rules.specs.Refused.{fault, noFault, inputFault, firstFault, lengthFaults, Answer, refused, answered}
-use Rattle.rules.specs.Numbers.{twoNumbers}
-use Rattle.rules.specs.Price.{costOf, scaledPrice}
-use Rattle.rules.specs.Utility.{held}
-use Rattle.rules.specs.Verdict.{verdictOf}
-use Rattle.rules.specs.Rank.{Candidate, sorted}
-use Rattle.rules.specs.Count.{dominantOf}
-use Rattle.rules.specs.Listing.{findOf, readingOf, recordOf, recordStart}
-use Rattle.rules.specs.Decide.{requestCheck, prescribeOf, prescribeCheckedOf, prescribeTracedCheckedOf, utilityForModelOf}
-use Rattle.rules.proofs.Opened.{rules}
-use Rattle.rules.proofs.Rows.{row, Named, Row, says, decided, explained}
-use Rattle.rules.proofs.Example.{bank, modelOne, modelTwo, policy, request, with, uneven, atHardLimit, unsure}
-use Rattle.rules.proofs.Example.{decision, rejected, counts, noCounts, counted}
-use Rattle.rules.proofs.Literals.{modelBytes47, modelSaid, requestBytes70, requestSaid, policyBytes30, policySaid}
-use Rattle.rules.proofs.Literals.{fourModels, fourRequest, fourPolicy, fourExplained, passes, gateRequest, gatePolicy}
+use Rattle.rules.proofs.Kit.{ℕ, zero, suc, _+_, _-_, _*_, _^_, refl, List, [], _∷_, _++_, map, none, some, ℤ, pos, negsuc, replicate}
+use Rattle.rules.specs.{Records.modelOf, Records.modelBytes, Records.inputOf, Records.inputBytes, Records.policyOf, Records.policyInBytes, Refused.fault}
+use Rattle.rules.specs.{Refused.noFault, Refused.inputFault, Refused.firstFault, Refused.lengthFaults, Refused.Answer, Refused.refused, Refused.answered}
+use Rattle.rules.specs.{Numbers.twoNumbers, Price.costOf, Price.scaledPrice, Utility.held, Verdict.verdictOf, Order.sortedBy, Rank.Candidate, Rank.better}
+use Rattle.rules.specs.{Count.dominantOf, Listing.findOf, Listing.readingOf, Listing.recordOf, Listing.recordStart, Decide.requestCheck}
+use Rattle.rules.specs.{Decide.prescribeOf, Decide.prescribeCheckedOf, Decide.prescribeTracedCheckedOf, Decide.utilityForModelOf}
+use Rattle.rules.proofs.{Opened.rules, Rows.Row, Rows.says, Rows.decided, Rows.explained, Example.bank, Example.modelOne, Example.modelTwo}
+use Rattle.rules.proofs.{Example.policy, Example.request, Example.with, Example.uneven, Example.atHardLimit, Example.unsure, Example.decision}
+use Rattle.rules.proofs.{Example.rejected, Example.counts, Example.noCounts, Example.counted, Literals.modelBytes47, Literals.modelSaid}
+use Rattle.rules.proofs.{Literals.requestBytes70, Literals.requestSaid, Literals.policyBytes30, Literals.policySaid, Literals.fourModels}
+use Rattle.rules.proofs.{Literals.fourRequest, Literals.fourPolicy, Literals.fourExplained, Literals.passes, Literals.gateRequest, Literals.gatePolicy}
 
 -- ---- bytes: each way, an explanation of each verdict, and one refused
 
@@ -118,7 +107,7 @@ gateRows =
     (verdictOf (policyOf gatePolicy) (inputOf (with 54 (replicate 7 0 ++ 128 ∷ []) gateRequest)) (modelOf (with 4 (63 ∷ []) passes)) .gate)
     0
     refl
-    ∷ says "enabled 2 is on" (verdictOf (policyOf gatePolicy) (inputOf gateRequest) (modelOf (with 10 (2 ∷ []) passes)) .verdict) 4 refl
+    ∷ says "enabled 2 is on" (verdictOf (policyOf gatePolicy) (inputOf gateRequest) (modelOf (with 10 (2 ∷ []) passes)) .kind) 4 refl
     ∷ []
 
 -- ---- ties of the counts: the last of the largest, in document 01's order
@@ -152,7 +141,7 @@ rankRows : List Row
 unfolding rules
 rankRows =
     says "the five keys, one after the other"
-    (sorted
+    (sortedBy better
     (candidate (negsuc 0) 0 9 0 0
     ∷ candidate (pos 5) 3 9 1 1
     ∷ candidate (pos 5) 2 7 1 2
@@ -182,12 +171,12 @@ rankRows =
     ∷ says "the highest price at the next scale is held" (scaledPrice (2 ^ 64 - 1) 1000001) (2 ^ 64 - 1) refl
     ∷ says "a scaled price is rounded down" (scaledPrice 3 999999) 2 refl
     ∷ says "a utility of 1 is positive"
-    (verdictOf (policyOf (with 20 (replicate 10 0) policy)) (inputOf worthOne) (modelOf (with 6 (16 ∷ 39 ∷ []) modelOne)) .verdict)
+    (verdictOf (policyOf (with 20 (replicate 10 0) policy)) (inputOf worthOne) (modelOf (with 6 (16 ∷ 39 ∷ []) modelOne)) .kind)
     4
     refl
     -- 1,800 for quality, less 1,000 for risk, 300 for cost and 500 for latency
     ∷ says "a utility of 0 isn't"
-    (verdictOf (policyOf policy) (inputOf (with 40 (0 ∷ 0 ∷ []) request)) (modelOf (with 6 (8 ∷ 7 ∷ []) modelTwo)) .verdict)
+    (verdictOf (policyOf policy) (inputOf (with 40 (0 ∷ 0 ∷ []) request)) (modelOf (with 6 (8 ∷ 7 ∷ []) modelTwo)) .kind)
     3
     refl
     ∷ says "a value of -10,000 counts as 0" (decided bank policy (with 20 (240 ∷ 216 ∷ replicate 6 255) request))
@@ -220,12 +209,13 @@ unfolding rules
 refusalRows =
     says "65,535 records" (lengthFaults (47 * 65535)) [] refl
     ∷ says "65,536 records: 2" (lengthFaults (47 * 65536)) (fault 2 ∷ []) refl
-    ∷ says "1 before 2" (firstFault (lengthFaults (47 * 65536 + 1))) (fault 1) refl
+    ∷ says "1 before 2" (firstFault (lengthFaults (47 * 65536 + 1))) (some (fault 1)) refl
     ∷ says "a bank of one byte: 1" (prescribeOf (policyOf policy) (inputOf request) (0 ∷ [])) (refused (fault 1)) refl
     ∷ says "10,000 is not refused" (requestCheck (inputOf request)) noFault refl
-    ∷ says "the risk comes before the confidence" (requestCheck (inputOf (with 36 (17 ∷ 39 ∷ 18 ∷ 39 ∷ 19 ∷ 39 ∷ []) request))) (inputFault 1 10001 0) refl
-    ∷ says "the confidence comes before the quality" (requestCheck (inputOf (with 38 (18 ∷ 39 ∷ 19 ∷ 39 ∷ []) request))) (inputFault 2 10002 0) refl
-    ∷ says "a minimum quality above 10,000: 3" (requestCheck (inputOf tooGood)) (inputFault 3 10003 0) refl
+    ∷ says "the risk comes before the confidence" (requestCheck (inputOf (with 36 (17 ∷ 39 ∷ 18 ∷ 39 ∷ 19 ∷ 39 ∷ []) request)))
+    (some (inputFault 1 10001 0)) refl
+    ∷ says "the confidence comes before the quality" (requestCheck (inputOf (with 38 (18 ∷ 39 ∷ 19 ∷ 39 ∷ []) request))) (some (inputFault 2 10002 0)) refl
+    ∷ says "a minimum quality above 10,000: 3" (requestCheck (inputOf tooGood)) (some (inputFault 3 10003 0)) refl
     ∷ says "3 of a checked call" (prescribeCheckedOf (policyOf policy) (inputOf tooGood) bank) (refused (inputFault 3 10003 0)) refl
     ∷ says "1 before 3, checked" (prescribeCheckedOf (policyOf policy) (inputOf tooGood) uneven) (refused (fault 1)) refl
     ∷ says "1 before 3, traced and checked" (prescribeTracedCheckedOf (policyOf policy) (inputOf tooGood) uneven) (refused (fault 1)) refl
@@ -249,9 +239,9 @@ refusalRows =
     refl
     ∷ says "a record is there" (readingOf bank 1) noFault refl
     ∷ says "its bytes" (recordOf bank 1) modelTwo refl
-    ∷ says "8: beyond the bank" (readingOf bank 2) (fault 8) refl
+    ∷ says "8: beyond the bank" (readingOf bank 2) (some (fault 8)) refl
     ∷ says "beyond the bank no bytes" (recordOf bank 2) [] refl
-    ∷ says "1 before 8" (readingOf uneven 2) (fault 1) refl
+    ∷ says "1 before 8" (readingOf uneven 2) (some (fault 1)) refl
     ∷ says "of an uneven bank no bytes" (recordOf uneven 0) [] refl
     ∷ says "a record begins at its own place, though one before it is equal" (recordStart (modelOne ++ modelOne) 1) 47 refl
     ∷ says "no bytes begin where the bank does" (recordStart bank 2 ∷ recordStart uneven 1 ∷ []) (0 ∷ 0 ∷ []) refl

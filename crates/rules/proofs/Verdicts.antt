@@ -1,24 +1,10 @@
 -- What a verdict can be: 1 with a gate from 1 to 8, 2, 3 or 4. Assumes nothing.
-use Prim.Native.Nat.{ℕ, suc, _+_, _<_, _≤_}
-use native.Mathlib.Nat.{eq-zero-or-pos}
-use native.Mathlib.Omega.{arith}
-use mathlib.Core.Path.{_≡_, refl}
-use mathlib.Core.Logic.{⊎-elim}
-use mathlib.Core.Bool.{Bool, true, false, cond}
-use mathlib.Core.List.{List, [], _∷_}
-use lib.Dec.{ltb}
-use lib.IntN.{pos}
-use lib.ListN.{length}
-use lib.Signed.{leZ}
-use Rattle.rules.specs.Choice.{below}
-use Rattle.rules.specs.Numbers.{Verdict}
-use Rattle.rules.specs.Gates.{firstOf, isOff, isPoor, isSlow, isUnable, isUnknown, isBarred, isElsewhere, isRisky, gateOf}
-use Rattle.rules.specs.Price.{costOf}
-use Rattle.rules.specs.Utility.{utilityOf}
-use Rattle.rules.specs.Verdict.{overBudget, withTerms, pricedOf, verdictOf}
-use Rattle.rules.specs.declared.records.KernelModel.{KernelModel}
-use Rattle.rules.specs.declared.records.KernelInput.{KernelInput}
-use Rattle.rules.specs.declared.records.PolicySnapshot.{PolicySnapshot}
+use Rattle.rules.proofs.Kit.{ℕ, suc, _+_, _<_, _≤_, eq-zero-or-pos, arith, _≡_, refl, ⊎-elim, Bool, true, false, cond, List, [], _∷_, ltb, pos, length}
+use Rattle.rules.proofs.Kit.{leZ}
+use Rattle.rules.specs.{Choice.below, Numbers.Verdict, Gates.firstOf, Gates.isOff, Gates.isPoor, Gates.isSlow, Gates.isUnable, Gates.isUnknown}
+use Rattle.rules.specs.{Gates.isBarred, Gates.isElsewhere, Gates.isRisky, Gates.gateOf, Price.costOf, Utility.utilityOf, Verdict.overBudget}
+use Rattle.rules.specs.{Verdict.withTerms, Verdict.byUtility, Verdict.verdictOf, declared.records.KernelModel.KernelModel}
+use Rattle.rules.specs.{declared.records.KernelInput.KernelInput, declared.records.PolicySnapshot.PolicySnapshot}
 use Rattle.rules.proofs.Choices.{below-yes, below-no}
 
 -- The first of some tests is one of them
@@ -36,10 +22,10 @@ gate-high m q =
 
 -- The four kinds of a verdict, by its numbers
 pub data Told (v : Verdict) : Type 0 where
-  by-gate : v .verdict ≡ 1 → 0 < v .gate → v .gate ≤ 8 → Told v
-  by-budget : v .verdict ≡ 2 → Told v
-  by-utility : v .verdict ≡ 3 → Told v
-  eligible : v .verdict ≡ 4 → Told v
+  by-gate : v .kind ≡ 1 → 0 < v .gate → v .gate ≤ 8 → Told v
+  by-budget : v .kind ≡ 2 → Told v
+  by-utility : v .kind ≡ 3 → Told v
+  eligible : v .kind ≡ 4 → Told v
 
 either : (b : Bool) (u v : Verdict) → Told u → Told v → Told (cond b u v)
 either true u v t s = t
@@ -51,11 +37,11 @@ module _ (p : PolicySnapshot) (q : KernelInput) (m : KernelModel) where
   told-terms true = by-utility refl
   told-terms false = eligible refl
 
-  told-priced : Told (pricedOf p q m)
-  unfolding pricedOf
+  told-priced : Told (byUtility p q m)
+  unfolding byUtility
   told-priced = told-terms (leZ (utilityOf p m q) (pos 0))
 
-  told-cost : Told (below (q .«budget_limit_microunits») (costOf m q) (overBudget (costOf m q) (q .«budget_limit_microunits»)) (pricedOf p q m))
+  told-cost : Told (below (q .«budget_limit_microunits») (costOf m q) (overBudget (costOf m q) (q .«budget_limit_microunits»)) (byUtility p q m))
   unfolding below
   told-cost = either (ltb (q .«budget_limit_microunits») (costOf m q)) _ _ (by-budget refl) told-priced
 

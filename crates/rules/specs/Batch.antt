@@ -1,4 +1,5 @@
 -- Document 01, "Deciding": a batch, which fills a row of decisions from a row of requests.
+use mathlib.Core.Option.{Option}
 use Prim.Native.Nat.{ℕ, suc}
 use mathlib.Core.List.{List, [], _∷_, _++_, map}
 use lib.ListN.{length}
@@ -26,13 +27,13 @@ unfoldable pub decisionsOf : PolicySnapshot → List ℕ → List KernelInput �
 decisionsOf p bank qs = map (λ q. decisionOf p q (listedOf bank)) qs
 
 -- D28. `prescribe_batch` and `prescribe_batch_checked`: the answer, by the room of the row, and the row at exit
-unfoldable pub batchOf : List ℕ → List KernelInput → ℕ → Fault
+unfoldable pub batchOf : List ℕ → List KernelInput → ℕ → Option Fault
 batchOf bank qs room = firstFault (batchFaults bank qs room)
 
 unfoldable pub batchRow : PolicySnapshot → List ℕ → List KernelInput → List Decision → List Decision
 batchRow p bank qs row = listUnless (batchFaults bank qs (length row)) (decisionsOf p bank qs) row
 
-unfoldable pub batchCheckedOf : List ℕ → List KernelInput → ℕ → Fault
+unfoldable pub batchCheckedOf : List ℕ → List KernelInput → ℕ → Option Fault
 batchCheckedOf bank qs room = firstFault (batchCheckedFaults bank qs room)
 
 unfoldable pub batchCheckedRow : PolicySnapshot → List ℕ → List KernelInput → List Decision → List Decision

@@ -7,45 +7,27 @@ use mir.Syntax.{w64}
 use mir.Val.{ofZ}
 use Rattle.rules.specs.Limits.{explanationBytes}
 use Rattle.rules.specs.Choice.{below, equal}
-use Rattle.rules.specs.Bytes.{Field, field, valueOf, packed}
+use Rattle.rules.specs.Bytes.{numberAt, packed}
 use Rattle.rules.specs.Records.{Listed, listedOf}
-use Rattle.rules.specs.Refused.{Faults, bankFaults, roomFaults, listUnless, Answer, answered, unless}
+use Rattle.rules.specs.Refused.{Faults, bankFaults, roomFaults, listUnless, Answer, answered, unless, refused}
 use Rattle.rules.specs.Numbers.{Decision}
 use Rattle.rules.specs.Verdict.{Judged, judged}
 use Rattle.rules.specs.Decide.{stoppedBy, decisionOf}
 use Rattle.rules.specs.declared.records.KernelInput.{KernelInput}
 use Rattle.rules.specs.declared.records.PolicySnapshot.{PolicySnapshot}
 
--- B6. An explanation record's fields
-abbrev pub explanationLayout : List Field
-explanationLayout =
-    -- id, place, verdict, gate
-    field 0 4
-    ∷ field 4 2
-    ∷ field 6 1
-    ∷ field 7 1
-    -- measured, cost or quality term; limit, budget or risk term
-    ∷ field 8 16
-    ∷ field 24 16
-    -- cost, latency term, utility
-    ∷ field 40 8
-    ∷ field 48 16
-    ∷ field 64 8
-    ∷ []
-
--- B6, B8. The 72 bytes of one record. No term is below 0, so its 16 bytes in two's complement are those of the number
+-- B6, B8. The 72 bytes of one record: each field beside its width. No term is below 0, so its 16 bytes in two's complement are those of the number
 unfoldable pub explanationRecord : Judged → List ℕ
 explanationRecord j =
-    packed explanationLayout
-    (j .listed .model .«model_id»
-    ∷ j .listed .place
-    ∷ j .verdict .verdict
-    ∷ j .verdict .gate
-    ∷ j .verdict .first
-    ∷ j .verdict .second
-    ∷ j .verdict .cost
-    ∷ j .verdict .latency
-    ∷ ofZ w64 (j .verdict .utility)
+    packed ((4, j .listed .model .«model_id»)
+    ∷ (2, j .listed .place)
+    ∷ (1, j .verdict .kind)
+    ∷ (1, j .verdict .gate)
+    ∷ (16, j .verdict .first)
+    ∷ (16, j .verdict .second)
+    ∷ (8, j .verdict .cost)
+    ∷ (16, j .verdict .latency)
+    ∷ (8, ofZ w64 (j .verdict .utility))
     ∷ [])
 
 -- D27. Every record in the order of the list, one after the other
@@ -59,11 +41,10 @@ explanationOf p q ls = below 0 (stoppedBy p q) [] (explained (judged p q ls))
 
 -- N4. `explain`: 4 only where this answer needs more room
 unfoldable pub explainFaults : PolicySnapshot → KernelInput → List ℕ → List ℕ → Faults
-explainFaults p q bank list =
-    bankFaults bank ++ roomFaults (length (explanationOf p q (listedOf bank))) (length list)
+explainFaults p q bank list = bankFaults bank ++ roomFaults (length (explanationOf p q (listedOf bank))) (length list)
 
 unfoldable pub explainOf : PolicySnapshot → KernelInput → List ℕ → List ℕ → Answer Decision
-explainOf p q bank list = unless (explainFaults p q bank list) (answered (decisionOf p q (listedOf bank)))
+explainOf p q bank list = unless (explainFaults p q bank list) refused (answered (decisionOf p q (listedOf bank)))
 
 -- B9, N24. The list at exit
 unfoldable pub explainList : PolicySnapshot → KernelInput → List ℕ → List ℕ → List ℕ
@@ -74,7 +55,7 @@ abbrev pub entriesIn : ℕ → ℕ
 entriesIn n = n / explanationBytes
 
 unfoldable pub verdictAt : List ℕ → ℕ → ℕ
-verdictAt list place = valueOf (drop (explanationBytes * place) list) (field 6 1)
+verdictAt list place = numberAt (drop (explanationBytes * place) list) 6 1
 
 -- X6. The place of the first eligible one (verdict 4) among so many from a place on; then among all from a place on
 unfoldable pub eligibleFrom : List ℕ → ℕ → ℕ → Option ℕ

@@ -32,8 +32,7 @@ isUnknown m q = ltb maxProviderId (m .«provider_id»)
 
 -- D9. Gate 6: the mask is not all ones, and the provider's bit in it is clear
 abbrev pub isBarred : KernelModel → KernelInput → Bool
-isBarred m q =
-    not (eqb (q .«allowed_provider_mask») allOnes) && eqb (q .«allowed_provider_mask» / 2 ^ (m .«provider_id») % 2) 0
+isBarred m q = not (eqb (q .«allowed_provider_mask») allOnes) && eqb (q .«allowed_provider_mask» / 2 ^ (m .«provider_id») % 2) 0
 
 -- D10. Gate 7: the required region is not 0, and no bit is common; all ones has no branch of its own
 abbrev pub isElsewhere : KernelModel → KernelInput → Bool
@@ -50,9 +49,7 @@ firstOf n (b ∷ bs) = cond b n (firstOf (suc n) bs)
 
 -- D3. The first gate that a model fails; 0 where it passes all
 unfoldable pub gateOf : KernelModel → KernelInput → ℕ
-gateOf m q =
-    firstOf 1
-    (isOff m q ∷ isPoor m q ∷ isSlow m q ∷ isUnable m q ∷ isUnknown m q ∷ isBarred m q ∷ isElsewhere m q ∷ isRisky m q ∷ [])
+gateOf m q = firstOf 1 (isOff m q ∷ isPoor m q ∷ isSlow m q ∷ isUnable m q ∷ isUnknown m q ∷ isBarred m q ∷ isElsewhere m q ∷ isRisky m q ∷ [])
 
 abbrev pub detail : ℕ → ℕ → GateDetail
 detail measured limit = record { measured = measured; limit = limit }

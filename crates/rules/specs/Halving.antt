@@ -58,6 +58,7 @@ halveIn side wins (suc times) low high =
 abbrev pub halve : Side → (ℕ → Bool) → ℕ → ℕ → Halved
 halve side wins low high = halveIn side wins (high - low) low high
 
+-- P1. What it found: the end that was tried first is a pass too
 abbrev pub foundAt : Halved → Bound
 foundAt h = At (h .at) (h .passes + 1)
 
@@ -69,9 +70,7 @@ passesOf (Nothing n) = n
 -- P2, P3, P4. A search: nothing and no pass for an empty range; nothing and one pass where the end tried first loses
 unfoldable pub searchOf : Side → (ℕ → Bool) → ℕ → ℕ → Bound
 searchOf side wins low high =
-    pick (ltb high low)
-    (λ _. Nothing 0)
-    (λ _. pick (wins (firstTried side low high)) (λ _. foundAt (halve side wins low high)) (λ _. Nothing 1))
+    pick (ltb high low) (λ _. Nothing 0) (λ _. pick (wins (firstTried side low high)) (λ _. foundAt (halve side wins low high)) (λ _. Nothing 1))
 
 -- M5. The far end of a margin: the least favourable one
 abbrev pub farEnd : Side → ℕ → ℕ → ℕ
@@ -84,5 +83,4 @@ laterBy n (Nothing passes) = Nothing (passes + n)
 
 -- M5. A search after the far end: where that wins there is no boundary
 unfoldable pub searchAfterFarEnd : Side → (ℕ → Bool) → ℕ → ℕ → Bound
-searchAfterFarEnd side wins low high =
-    pick (wins (farEnd side low high)) (λ _. Nothing 1) (λ _. laterBy 1 (searchOf side wins low high))
+searchAfterFarEnd side wins low high = pick (wins (farEnd side low high)) (λ _. Nothing 1) (λ _. laterBy 1 (searchOf side wins low high))

@@ -5,82 +5,45 @@ use mathlib.Core.List.{List, [], _∷_, _++_}
 use mathlib.Core.Option.{Option, none, some}
 use lib.Dec.{eqb}
 use lib.ListN.{length, replicate}
-use lib.IntN.{pos}
-use Rattle.rules.specs.Limits.{ppm, noPlace}
+use Rattle.rules.specs.Limits.{ppm}
 use Rattle.rules.specs.Choice.{equal}
 use Rattle.rules.specs.Records.{Listed, listed}
 use Rattle.rules.specs.Refused.{Fault, noFault}
 use Rattle.rules.specs.Numbers.{Decision, isRejection, Entry, Boundary}
 use Rattle.rules.specs.Price.{scaledPrice}
-use Rattle.rules.specs.Decide.{decisionOf}
+use Rattle.rules.specs.Decide.{noCandidate, decisionWith, decisionOf}
 use Rattle.rules.specs.declared.records.KernelModel.{KernelModel}
 use Rattle.rules.specs.declared.records.KernelInput.{KernelInput}
 use Rattle.rules.specs.declared.records.PolicySnapshot.{PolicySnapshot}
 use Rattle.rules.specs.declared.boundary.Bound.{Bound}
 use Rattle.rules.specs.declared.boundary.Bound.the-variants.{At, Nothing}
 
--- A model with what levers move; all else is as it is
-abbrev pub moved : KernelModel → ℕ → ℕ → ℕ → ℕ → ℕ → ℕ → KernelModel
-moved m quality ceiling enabled latency input output =
-    record {
-      «model_id» = m .«model_id»;
-      «provider_id» = m .«provider_id»;
-      «quality_bps» = quality;
-      «risk_ceiling_bps» = ceiling;
-      enabled = enabled;
-      «p95_latency_ms» = latency;
-      capabilities = m .capabilities;
-      «region_mask» = m .«region_mask»;
-      «input_cost_microunits_per_million_tokens» = input;
-      «output_cost_microunits_per_million_tokens» = output;
-    }
-
--- W4. Lever 1
-abbrev pub withQuality : ℕ → KernelModel → KernelModel
-withQuality v m =
-    moved m v (m .«risk_ceiling_bps») (m .enabled) (m .«p95_latency_ms») (m .«input_cost_microunits_per_million_tokens») (m .«output_cost_microunits_per_million_tokens»)
-
--- W5. Lever 2
-abbrev pub withLatency : ℕ → KernelModel → KernelModel
-withLatency v m =
-    moved m (m .«quality_bps») (m .«risk_ceiling_bps») (m .enabled) v (m .«input_cost_microunits_per_million_tokens») (m .«output_cost_microunits_per_million_tokens»)
-
--- W6, W8. Lever 3: both prices scaled alike
-abbrev pub withPriceScale : ℕ → KernelModel → KernelModel
-withPriceScale v m =
-    moved m (m .«quality_bps») (m .«risk_ceiling_bps») (m .enabled) (m .«p95_latency_ms»)
-    (scaledPrice (m .«input_cost_microunits_per_million_tokens») v)
-    (scaledPrice (m .«output_cost_microunits_per_million_tokens») v)
-
--- W7. Lever 4
-abbrev pub withCeiling : ℕ → KernelModel → KernelModel
-withCeiling v m =
-    moved m (m .«quality_bps») v (m .enabled) (m .«p95_latency_ms») (m .«input_cost_microunits_per_million_tokens») (m .«output_cost_microunits_per_million_tokens»)
-
--- W3. Lever 5
-abbrev pub withEnabled : ℕ → KernelModel → KernelModel
-withEnabled v m =
-    moved m (m .«quality_bps») (m .«risk_ceiling_bps») v (m .«p95_latency_ms») (m .«input_cost_microunits_per_million_tokens») (m .«output_cost_microunits_per_million_tokens»)
-
--- W10. A model with the lever of a number at a value; any number but 1 to 4 is lever 5
+-- W10. A model with the lever of a number at a value: 1 quality (W4), 2 latency (W5), 3 both prices, scaled alike (W6, W8), 4 ceiling (W7),
+-- 5 enabled (W3). All else is as it is; a number that is no lever's moves nothing
 unfoldable pub leverAt : ℕ → ℕ → KernelModel → KernelModel
-leverAt lever v m =
-    equal lever 1 (withQuality v m)
-    (equal lever 2 (withLatency v m)
-    (equal lever 3 (withPriceScale v m)
-    (equal lever 4 (withCeiling v m) (withEnabled v m))))
+leverAt lever v m = record {
+  «model_id» = m .«model_id»;
+  «provider_id» = m .«provider_id»;
+  «quality_bps» = equal lever 1 v (m .«quality_bps»);
+  «risk_ceiling_bps» = equal lever 4 v (m .«risk_ceiling_bps»);
+  enabled = equal lever 5 v (m .enabled);
+  «p95_latency_ms» = equal lever 2 v (m .«p95_latency_ms»);
+  capabilities = m .capabilities;
+  «region_mask» = m .«region_mask»;
+  «input_cost_microunits_per_million_tokens» = equal lever 3 (scaledPrice (m .«input_cost_microunits_per_million_tokens») v)
+      (m .«input_cost_microunits_per_million_tokens»);
+  «output_cost_microunits_per_million_tokens» = equal lever 3 (scaledPrice (m .«output_cost_microunits_per_million_tokens») v)
+      (m .«output_cost_microunits_per_million_tokens»);
+}
 
 -- W2. A decision selects an id where it is no rejection and chose that id
 unfoldable pub selects : ℕ → Decision → Bool
 selects id d = not (isRejection d) && eqb (d .model) id
 
 -- R1. The list with another model in the first listed record with an id, its place kept
-abbrev pub orStandIn : ℕ → KernelModel → Listed → List Listed → List Listed → List Listed
-orStandIn id m l rest later = equal (l .model .«model_id») id (listed (l .place) m ∷ rest) (l ∷ later)
-
 unfoldable pub varied : ℕ → KernelModel → List Listed → List Listed
 varied id m [] = []
-varied id m (l ∷ ls) = orStandIn id m l ls (varied id m ls)
+varied id m (l ∷ ls) = equal (l .model .«model_id») id (listed (l .place) m ∷ ls) (l ∷ varied id m ls)
 
 -- What the boundary calls ask about: policy, request, list, and the model with the id that is varied
 pub record Question : Type 0 where
@@ -128,50 +91,20 @@ noEntry = entry 0 0 0 none
 
 -- P1, P6. The answer, with room for four levers; the opening decision is one pass
 unfoldable pub boundaryOf : ℕ → Decision → Bool → Sought → Boundary
-boundaryOf id d blocked s =
-    record {
-      refusal = noFault;
-      model = id;
-      decision = d;
-      blocked = blocked;
-      levers = s .entries ++ replicate (4 - length (s .entries)) noEntry;
-      count = length (s .entries);
-      passes = 1 + s .passes;
-    }
+boundaryOf id d blocked s = record {
+  refusal = noFault;
+  model = id;
+  decision = d;
+  blocked = blocked;
+  levers = s .entries ++ replicate (4 - length (s .entries)) noEntry;
+  count = length (s .entries);
+  passes = 1 + s .passes;
+}
 
 -- The decision beside a refusal
 abbrev pub noDecision : Decision
-noDecision =
-    record {
-      sequence = 0;
-      action = 3;
-      reason = 102;
-      model = 0;
-      place = noPlace;
-      cost = 0;
-      utility = pos 0;
-      other = 0;
-      otherUtility = pos 0;
-      evaluated = 0;
-      eligible = 0;
-      policyEpoch = 0;
-      catalogEpoch = 0;
-    }
+noDecision = decisionWith 0 0 0 3 102 noCandidate [] 0 0
 
 -- P6. A refusal carries no count: every other field has its one fixed value
 abbrev pub boundaryRefused : Fault → Boundary
-boundaryRefused f =
-    record {
-      refusal = f;
-      model = 0;
-      decision = noDecision;
-      blocked = false;
-      levers = replicate 4 noEntry;
-      count = 0;
-      passes = 0;
-    }
-
--- The first fault, or the answer where there is none
-abbrev pub boundaryUnless : List Fault → Boundary → Boundary
-boundaryUnless [] b = b
-boundaryUnless (f ∷ fs) b = boundaryRefused f
+boundaryRefused f = record { refusal = some f; model = 0; decision = noDecision; blocked = false; levers = replicate 4 noEntry; count = 0; passes = 0 }

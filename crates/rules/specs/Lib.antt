@@ -1,6 +1,7 @@
--- Document 01 as definitions, in the order of its sections; sizes, limits and choices by a test come first. A reader has only these to believe.
+-- Document 01 as definitions, in the order of its sections; sizes, limits, choices by a test and lists in order come first. A reader has only these to believe.
 pub mod Limits
 pub mod Choice
+pub mod Order
 -- bytes
 pub mod Bytes
 pub mod Wide

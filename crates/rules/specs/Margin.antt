@@ -6,12 +6,12 @@ use mathlib.Core.Option.{Option, none, some}
 use Rattle.rules.specs.Limits.{maxU32, ppm, maxPriceScale}
 use Rattle.rules.specs.Choice.{pick}
 use Rattle.rules.specs.Records.{Listed, listedOf}
-use Rattle.rules.specs.Refused.{fault, bankFaults}
+use Rattle.rules.specs.Refused.{fault, bankFaults, unless}
 use Rattle.rules.specs.Numbers.{Decision, isRejection, Boundary}
 use Rattle.rules.specs.Decide.{decisionOf}
 use Rattle.rules.specs.Listing.{firstListed}
 use Rattle.rules.specs.Halving.{Lowest, Highest, searchOf, searchAfterFarEnd}
-use Rattle.rules.specs.Levers.{Question, wins, Sought, plain, priced, andThen, boundaryOf, boundaryRefused, boundaryUnless}
+use Rattle.rules.specs.Levers.{Question, wins, Sought, plain, priced, andThen, boundaryOf, boundaryRefused}
 use Rattle.rules.specs.declared.records.KernelInput.{KernelInput}
 use Rattle.rules.specs.declared.records.PolicySnapshot.{PolicySnapshot}
 
@@ -27,20 +27,15 @@ marginLevers a =
 -- R1. The first listed record with the chosen id is varied; a chosen id is always listed
 abbrev pub marginIfListed : PolicySnapshot → KernelInput → List Listed → Decision → Option Listed → Boundary
 marginIfListed p q ls d none = boundaryRefused (fault 6)
-marginIfListed p q ls d (some l) =
-    boundaryOf (d .model) d false
-    (marginLevers (record { policy = p; request = q; list = ls; id = d .model; model = l .model }))
+marginIfListed p q ls d (some l) = boundaryOf (d .model) d false (marginLevers (record { policy = p; request = q; list = ls; id = d .model; model = l .model }))
 
 -- N6. A rejection has no margin
 unfoldable pub marginFor : PolicySnapshot → KernelInput → List Listed → Decision → Boundary
-marginFor p q ls d =
-    pick (isRejection d)
-    (λ _. boundaryRefused (fault 6))
-    (λ _. marginIfListed p q ls d (firstListed (d .model) ls))
+marginFor p q ls d = pick (isRejection d) (λ _. boundaryRefused (fault 6)) (λ _. marginIfListed p q ls d (firstListed (d .model) ls))
 
 unfoldable pub marginIn : PolicySnapshot → KernelInput → List Listed → Boundary
 marginIn p q ls = marginFor p q ls (decisionOf p q ls)
 
 -- `decision_margin` over a bank
 unfoldable pub decisionMarginOf : PolicySnapshot → KernelInput → List ℕ → Boundary
-decisionMarginOf p q bank = boundaryUnless (bankFaults bank) (marginIn p q (listedOf bank))
+decisionMarginOf p q bank = unless (bankFaults bank) boundaryRefused (marginIn p q (listedOf bank))

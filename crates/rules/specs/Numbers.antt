@@ -73,30 +73,29 @@ pub record Decision : Type 0 where
   pub place : ℕ
   pub cost : ℕ
   pub utility : ℤ
-  pub other : ℕ
-  pub otherUtility : ℤ
+  pub counterfactual : ℕ
+  pub counterfactualUtility : ℤ
   pub evaluated : ℕ
   pub eligible : ℕ
   pub policyEpoch : ℕ
   pub catalogEpoch : ℕ
 
 abbrev pub toldDecision : KernelDecision → Decision
-toldDecision d =
-    record {
-      sequence = d .«request_sequence»;
-      action = actionNo (d .action);
-      reason = reasonNo (d .reason);
-      model = d .«selected_model_id»;
-      place = d .«selected_model_index»;
-      cost = d .«estimated_cost_microunits»;
-      utility = d .«expected_utility_microunits»;
-      other = d .«counterfactual_model_id»;
-      otherUtility = d .«counterfactual_utility_microunits»;
-      evaluated = d .«evaluated_models»;
-      eligible = d .«eligible_models»;
-      policyEpoch = d .«policy_epoch»;
-      catalogEpoch = d .«catalog_epoch»;
-    }
+toldDecision d = record {
+  sequence = d .«request_sequence»;
+  action = actionNo (d .action);
+  reason = reasonNo (d .reason);
+  model = d .«selected_model_id»;
+  place = d .«selected_model_index»;
+  cost = d .«estimated_cost_microunits»;
+  utility = d .«expected_utility_microunits»;
+  counterfactual = d .«counterfactual_model_id»;
+  counterfactualUtility = d .«counterfactual_utility_microunits»;
+  evaluated = d .«evaluated_models»;
+  eligible = d .«eligible_models»;
+  policyEpoch = d .«policy_epoch»;
+  catalogEpoch = d .«catalog_epoch»;
+}
 
 -- D25. A decision that chose nothing
 abbrev pub isRejection : Decision → Bool
@@ -148,7 +147,7 @@ toldWritten (written.Bytes n) = answered n
 
 -- B6. What document 01 tells of one record: the verdict's number, the gate's or 0, and the numbers of an explanation record from offset 8 on
 pub record Verdict : Type 0 where
-  pub verdict : ℕ
+  pub kind : ℕ
   pub gate : ℕ
   pub first : ℕ
   pub second : ℕ
@@ -158,24 +157,22 @@ pub record Verdict : Type 0 where
 
 -- B6. Verdict 4 is eligible: the first where it is, else the second
 abbrev pub whereEligible : {A : Type 0} → Verdict → A → A → A
-whereEligible v x y = equal (v .verdict) 4 x y
+whereEligible v x y = equal (v .kind) 4 x y
 
 abbrev pub toldTerms : ℕ → UtilityTerms → Verdict
-toldTerms n t =
-    record {
-      verdict = n;
-      gate = 0;
-      first = val (t .«quality_adjusted»);
-      second = val (t .«risk_penalty»);
-      cost = t .«cost_microunits»;
-      latency = val (t .«latency_penalty»);
-      utility = t .utility;
-    }
+toldTerms n t = record {
+  kind = n;
+  gate = 0;
+  first = val (t .«quality_adjusted»);
+  second = val (t .«risk_penalty»);
+  cost = t .«cost_microunits»;
+  latency = val (t .«latency_penalty»);
+  utility = t .utility;
+}
 
 -- B7. Verdicts 1 and 2 carry two numbers and no more
 abbrev pub twoNumbers : ℕ → ℕ → ℕ → ℕ → Verdict
-twoNumbers n gate first second =
-    record { verdict = n; gate = gate; first = first; second = second; cost = 0; latency = 0; utility = pos 0 }
+twoNumbers n gate first second = record { kind = n; gate = gate; first = first; second = second; cost = 0; latency = 0; utility = pos 0 }
 
 abbrev pub toldVerdict : CandidateVerdict → Verdict
 toldVerdict (verdict.Rejected gate measured limit) = twoNumbers 1 gate measured limit
@@ -202,17 +199,11 @@ toldCost cost.Unpriced = none
 toldCost (cost.Microunits c) = some c
 
 abbrev pub toldEntry : Requirement → Entry
-toldEntry r =
-    record {
-      lever = r .lever;
-      current = r .current;
-      boundary = r .boundary;
-      cost = toldCost (r .«cost_at_boundary_microunits»);
-    }
+toldEntry r = record { lever = r .lever; current = r .current; boundary = r .boundary; cost = toldCost (r .«cost_at_boundary_microunits») }
 
 -- The answer of both boundary calls. Its refusal is `noFault` where it answers
 pub record Boundary : Type 0 where
-  pub refusal : Fault
+  pub refusal : Option Fault
   pub model : ℕ
   pub decision : Decision
   pub blocked : Bool
@@ -221,13 +212,12 @@ pub record Boundary : Type 0 where
   pub passes : ℕ
 
 abbrev pub toldBoundaries : Boundaries → Boundary
-toldBoundaries b =
-    record {
-      refusal = toldOutcome (b .outcome);
-      model = b .«model_id»;
-      decision = toldDecision (b .decision);
-      blocked = b .«blocked_by_request»;
-      levers = map toldEntry (b .levers .levers);
-      count = b .levers .count;
-      passes = b .levers .passes;
-    }
+toldBoundaries b = record {
+  refusal = toldOutcome (b .outcome);
+  model = b .«model_id»;
+  decision = toldDecision (b .decision);
+  blocked = b .«blocked_by_request»;
+  levers = map toldEntry (b .levers .levers);
+  count = b .levers .count;
+  passes = b .levers .passes;
+}

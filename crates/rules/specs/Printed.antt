@@ -1,14 +1,15 @@
 -- Document 01, "The example bank": what the unit's program prints; and the answer to the question asked at the desk.
+use lib.Dec.{ltb}
 use Prim.Native.Nat.{ℕ}
-use mathlib.Core.List.{List, [], _∷_, _++_}
+use mathlib.Core.List.{List, [], _∷_, _++_, map}
 use mathlib.Core.Option.{Option, none, some}
 use lib.ListN.{length, take}
 use Rattle.rules.specs.Limits.{maxProgramModels}
-use Rattle.rules.specs.Choice.{below}
 use Rattle.rules.specs.Records.{Listed, policyOf, inputOf, recordsIn, listedOf}
-use Rattle.rules.specs.Refused.{Fault, Faults, fault, roomFaults, listUnless, Answer, answered, unless}
+use Rattle.rules.specs.Refused.{Fault, Faults, fault, roomFaults, listUnless, Answer, answered, unless, refused, refuseIf}
 use Rattle.rules.specs.Numbers.{Decision, Entry, Boundary}
 use Rattle.rules.specs.Listing.{firstListed}
+use Rattle.rules.specs.Count.{countNumbers}
 use Rattle.rules.specs.Decide.{decisionOf, countsIn, requestFaults}
 use Rattle.rules.specs.Win.{winIn}
 use Rattle.rules.specs.Margin.{marginIn}
@@ -25,35 +26,13 @@ use Rattle.rules.specs.declared.decision.RejectionHistogram.{RejectionHi
 unfoldable pub decisionLine : Decision → List ℕ
 decisionLine d =
     line (text "decision")
-    (decimal (d .sequence)
-    ∷ decimal (d .action)
-    ∷ decimal (d .reason)
-    ∷ decimal (d .model)
-    ∷ decimal (d .place)
-    ∷ decimal (d .cost)
-    ∷ signedDecimal (d .utility)
-    ∷ decimal (d .other)
-    ∷ signedDecimal (d .otherUtility)
-    ∷ decimal (d .evaluated)
-    ∷ decimal (d .eligible)
-    ∷ decimal (d .policyEpoch)
-    ∷ decimal (d .catalogEpoch)
-    ∷ [])
+    (map decimal (d .sequence ∷ d .action ∷ d .reason ∷ d .model ∷ d .place ∷ d .cost ∷ [])
+    ++ (signedDecimal (d .utility) ∷ decimal (d .counterfactual) ∷ signedDecimal (d .counterfactualUtility) ∷ [])
+    ++ map decimal (d .evaluated ∷ d .eligible ∷ d .policyEpoch ∷ d .catalogEpoch ∷ []))
 
 -- X2. The nine counts, in theirs
 unfoldable pub countsLine : RejectionHistogram → List ℕ
-countsLine c =
-    line (text "rejected")
-    (decimal (c .disabled)
-    ∷ decimal (c .quality)
-    ∷ decimal (c .«risk_ceiling»)
-    ∷ decimal (c .latency)
-    ∷ decimal (c .capability)
-    ∷ decimal (c .provider)
-    ∷ decimal (c .region)
-    ∷ decimal (c .budget)
-    ∷ decimal (c .utility)
-    ∷ [])
+countsLine c = line (text "rejected") (map decimal (countNumbers c))
 
 -- X3. A lever: its number, today's value, the boundary, and the cost there or a dash
 unfoldable pub costText : Option ℕ → List ℕ
@@ -61,8 +40,7 @@ costText none = text "-"
 costText (some c) = decimal c
 
 unfoldable pub leverLine : Entry → List ℕ
-leverLine e =
-    line (text "lever") (decimal (e .lever) ∷ decimal (e .current) ∷ decimal (e .boundary) ∷ costText (e .cost) ∷ [])
+leverLine e = line (text "lever") (decimal (e .lever) ∷ decimal (e .current) ∷ decimal (e .boundary) ∷ costText (e .cost) ∷ [])
 
 unfoldable pub leverLines : List Entry → List ℕ
 leverLines [] = []
@@ -78,10 +56,6 @@ passesLine n = line (text "passes") (decimal n ∷ [])
 -- X3. Bad input prints this alone
 unfoldable pub refusedLine : Fault → List ℕ
 refusedLine f = line (text "refused") (decimal (f .number) ∷ [])
-
-abbrev pub textUnless : Faults → List ℕ → List ℕ
-textUnless [] t = t
-textUnless (f ∷ fs) t = refusedLine f
 
 -- ---- the unit's program
 
@@ -102,7 +76,7 @@ programRequest input = inputOf (bodyOf (afterOf (afterOf input)))
 unfoldable pub programFaults : List ℕ → Faults
 programFaults input =
     formFaults (1 ∷ 2 ∷ 3 ∷ []) input
-    ++ below maxProgramModels (recordsIn (length (programBank input))) (fault 19 ∷ []) []
+    ++ refuseIf (ltb maxProgramModels (recordsIn (length (programBank input)))) (fault 19)
     ++ catalogFaults (programPolicy input) (programModels input)
     ++ requestFaults (programRequest input) 0
 
@@ -111,7 +85,7 @@ unfoldable pub unitReport : PolicySnapshot → KernelInput → List Listed → L
 unitReport p q ls = decisionLine (decisionOf p q ls) ++ countsLine (countsIn p q ls) ++ leverLines (entriesOf (marginIn p q ls))
 
 unfoldable pub unitText : List ℕ → List ℕ
-unitText input = textUnless (programFaults input) (unitReport (programPolicy input) (programRequest input) (programModels input))
+unitText input = unless (programFaults input) refusedLine (unitReport (programPolicy input) (programRequest input) (programModels input))
 
 -- ---- the question from the desk: what would make a model win
 
@@ -131,13 +105,13 @@ abbrev pub askedOf : ℕ → List ℕ → Boundary
 askedOf id input = winIn (programPolicy input) (programRequest input) (programModels input) id
 
 unfoldable pub askText : ℕ → List ℕ → List ℕ
-askText id input = textUnless (askFaults id input) (askReport (askedOf id input .decision) (askedOf id input))
+askText id input = unless (askFaults id input) refusedLine (askReport (askedOf id input .decision) (askedOf id input))
 
 -- ---- as calls
 
 -- N4. A text goes to the start of a lent buffer: 4 where it doesn't fit; the answer is its length
 unfoldable pub printOf : List ℕ → ℕ → Answer ℕ
-printOf t room = unless (roomFaults (length t) room) (answered (length t))
+printOf t room = unless (roomFaults (length t) room) refused (answered (length t))
 
 unfoldable pub printBuffer : List ℕ → List ℕ → List ℕ
 printBuffer t buffer = listUnless (roomFaults (length t) (length buffer)) t buffer

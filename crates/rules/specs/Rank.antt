@@ -1,9 +1,10 @@
 -- Document 01, "Deciding": the ranking of the eligible models.
 use Prim.Native.Nat.{ℕ}
-use mathlib.Core.Bool.{Bool, false, cond}
-use mathlib.Core.List.{List, [], _∷_, foldl}
+use mathlib.Core.Bool.{Bool, false}
+use mathlib.Core.List.{List, [], _∷_}
 use lib.IntN.{ℤ}
 use Rattle.rules.specs.Choice.{lower, higher}
+use Rattle.rules.specs.Order.{sortedBy}
 use Rattle.rules.specs.Numbers.{whereEligible}
 use Rattle.rules.specs.Verdict.{Judged}
 
@@ -16,14 +17,13 @@ pub record Candidate : Type 0 where
   pub place : ℕ
 
 abbrev pub candidateOf : Judged → Candidate
-candidateOf j =
-    record {
-      utility = j .verdict .utility;
-      cost = j .verdict .cost;
-      quality = j .listed .model .«quality_bps»;
-      id = j .listed .model .«model_id»;
-      place = j .listed .place;
-    }
+candidateOf j = record {
+  utility = j .verdict .utility;
+  cost = j .verdict .cost;
+  quality = j .listed .model .«quality_bps»;
+  id = j .listed .model .«model_id»;
+  place = j .listed .place;
+}
 
 -- D22. Higher utility, lower cost, higher quality, lower id, earlier place
 unfoldable pub better : Candidate → Candidate → Bool
@@ -34,15 +34,6 @@ better a b =
     (lower (a .id) (b .id)
     (lower (a .place) (b .place) false))))
 
--- A candidate goes before the first that it is better than
-abbrev pub insert : List Candidate → Candidate → List Candidate
-insert [] c = c ∷ []
-insert (x ∷ xs) c = cond (better c x) (c ∷ x ∷ xs) (x ∷ insert xs c)
-
--- D22. The candidates in their order
-abbrev pub sorted : List Candidate → List Candidate
-sorted cs = foldl insert [] cs
-
 -- An eligible record is kept, any other one left out
 abbrev pub keep : Judged → List Candidate → List Candidate
 keep j cs = whereEligible (j .verdict) (candidateOf j ∷ cs) cs
@@ -52,6 +43,6 @@ abbrev pub eligibles : List Judged → List Candidate
 eligibles [] = []
 eligibles (j ∷ js) = keep j (eligibles js)
 
--- D22. The ranking
+-- D22. The ranking: the better first
 unfoldable pub ranking : List Judged → List Candidate
-ranking js = sorted (eligibles js)
+ranking js = sortedBy better (eligibles js)

@@ -1,160 +1,111 @@
 -- Document 01, "Bytes": a model, a request and a policy in bytes, and a bank as a list of models with their places.
 use Prim.Native.Nat.{ℕ, zero, suc, _*_, _/_}
 use mathlib.Core.List.{List, [], _∷_}
-use lib.ListN.{length, take, drop, getD}
+use lib.ListN.{length, take, drop}
 use mir.Syntax.{w64}
 use mir.Val.{toZ, ofZ}
 use Rattle.rules.specs.Limits.{recordBytes}
-use Rattle.rules.specs.Bytes.{Field, field, valuesOf, packed}
+use Rattle.rules.specs.Bytes.{numberAt, packed}
 use Rattle.rules.specs.declared.records.KernelModel.{KernelModel}
 use Rattle.rules.specs.declared.records.KernelInput.{KernelInput}
 use Rattle.rules.specs.declared.records.PolicySnapshot.{PolicySnapshot}
 
--- B3. A model's fields: offset and width
-abbrev pub modelLayout : List Field
-modelLayout =
-    -- id, provider, quality, ceiling, enabled
-    field 0 4
-    ∷ field 4 2
-    ∷ field 6 2
-    ∷ field 8 2
-    ∷ field 10 1
-    -- latency, capabilities, regions, input price, output price
-    ∷ field 11 4
-    ∷ field 15 8
-    ∷ field 23 8
-    ∷ field 31 8
-    ∷ field 39 8
-    ∷ []
-
-abbrev pub modelFrom : List ℕ → KernelModel
-modelFrom vs =
-    record {
-      «model_id» = getD vs 0 0;
-      «provider_id» = getD vs 1 0;
-      «quality_bps» = getD vs 2 0;
-      «risk_ceiling_bps» = getD vs 3 0;
-      enabled = getD vs 4 0;
-      «p95_latency_ms» = getD vs 5 0;
-      capabilities = getD vs 6 0;
-      «region_mask» = getD vs 7 0;
-      «input_cost_microunits_per_million_tokens» = getD vs 8 0;
-      «output_cost_microunits_per_million_tokens» = getD vs 9 0;
-    }
-
-abbrev pub modelNumbers : KernelModel → List ℕ
-modelNumbers m =
-    m .«model_id»
-    ∷ m .«provider_id»
-    ∷ m .«quality_bps»
-    ∷ m .«risk_ceiling_bps»
-    ∷ m .enabled
-    ∷ m .«p95_latency_ms»
-    ∷ m .capabilities
-    ∷ m .«region_mask»
-    ∷ m .«input_cost_microunits_per_million_tokens»
-    ∷ m .«output_cost_microunits_per_million_tokens»
-    ∷ []
-
--- B3. The model that 47 bytes say, and the bytes that say a model
+-- B3. The model that 47 bytes say: each field by its offset and width
 unfoldable pub modelOf : List ℕ → KernelModel
-modelOf s = modelFrom (valuesOf modelLayout s)
+modelOf s = record {
+  «model_id» = numberAt s 0 4;
+  «provider_id» = numberAt s 4 2;
+  «quality_bps» = numberAt s 6 2;
+  «risk_ceiling_bps» = numberAt s 8 2;
+  enabled = numberAt s 10 1;
+  «p95_latency_ms» = numberAt s 11 4;
+  capabilities = numberAt s 15 8;
+  «region_mask» = numberAt s 23 8;
+  «input_cost_microunits_per_million_tokens» = numberAt s 31 8;
+  «output_cost_microunits_per_million_tokens» = numberAt s 39 8;
+}
 
-unfoldable pub modelBytes : KernelModel → List ℕ
-modelBytes m = packed modelLayout (modelNumbers m)
-
--- B12. A request's fields, in the order of the struct
-abbrev pub requestLayout : List Field
-requestLayout =
-    -- sequence, requested model, input tokens, output tokens, value, budget
-    field 0 8
-    ∷ field 8 4
-    ∷ field 12 4
-    ∷ field 16 4
-    ∷ field 20 8
-    ∷ field 28 8
-    -- risk, confidence, minimum quality, latency, capabilities, providers, regions
-    ∷ field 36 2
-    ∷ field 38 2
-    ∷ field 40 2
-    ∷ field 42 4
-    ∷ field 46 8
-    ∷ field 54 8
-    ∷ field 62 8
+-- B3. A model's fields, each beside its width, and the bytes that say them
+abbrev pub modelFields : KernelModel → List (ℕ × ℕ)
+modelFields m =
+    (4, m .«model_id»)
+    ∷ (2, m .«provider_id»)
+    ∷ (2, m .«quality_bps»)
+    ∷ (2, m .«risk_ceiling_bps»)
+    ∷ (1, m .enabled)
+    ∷ (4, m .«p95_latency_ms»)
+    ∷ (8, m .capabilities)
+    ∷ (8, m .«region_mask»)
+    ∷ (8, m .«input_cost_microunits_per_million_tokens»)
+    ∷ (8, m .«output_cost_microunits_per_million_tokens»)
     ∷ []
 
--- B2. The value is signed: `toZ w64` reads 64 bits in two's complement, `ofZ w64` gives them
-abbrev pub inputFrom : List ℕ → KernelInput
-inputFrom vs =
-    record {
-      «request_sequence» = getD vs 0 0;
-      «requested_model_id» = getD vs 1 0;
-      «input_tokens» = getD vs 2 0;
-      «output_tokens» = getD vs 3 0;
-      «business_value_microunits» = toZ w64 (getD vs 4 0);
-      «budget_limit_microunits» = getD vs 5 0;
-      «risk_bps» = getD vs 6 0;
-      «confidence_bps» = getD vs 7 0;
-      «minimum_quality_bps» = getD vs 8 0;
-      «max_p95_latency_ms» = getD vs 9 0;
-      «required_capabilities» = getD vs 10 0;
-      «allowed_provider_mask» = getD vs 11 0;
-      «required_region_mask» = getD vs 12 0;
-    }
+abbrev pub modelBytes : KernelModel → List ℕ
+modelBytes m = packed (modelFields m)
 
-abbrev pub inputNumbers : KernelInput → List ℕ
-inputNumbers q =
-    q .«request_sequence»
-    ∷ q .«requested_model_id»
-    ∷ q .«input_tokens»
-    ∷ q .«output_tokens»
-    ∷ ofZ w64 (q .«business_value_microunits»)
-    ∷ q .«budget_limit_microunits»
-    ∷ q .«risk_bps»
-    ∷ q .«confidence_bps»
-    ∷ q .«minimum_quality_bps»
-    ∷ q .«max_p95_latency_ms»
-    ∷ q .«required_capabilities»
-    ∷ q .«allowed_provider_mask»
-    ∷ q .«required_region_mask»
-    ∷ []
-
+-- B12. The request that 70 bytes say, in the order of the struct. B2. The value is signed: `toZ w64` reads 64 bits in two's complement
 unfoldable pub inputOf : List ℕ → KernelInput
-inputOf s = inputFrom (valuesOf requestLayout s)
+inputOf s = record {
+  «request_sequence» = numberAt s 0 8;
+  «requested_model_id» = numberAt s 8 4;
+  «input_tokens» = numberAt s 12 4;
+  «output_tokens» = numberAt s 16 4;
+  «business_value_microunits» = toZ w64 (numberAt s 20 8);
+  «budget_limit_microunits» = numberAt s 28 8;
+  «risk_bps» = numberAt s 36 2;
+  «confidence_bps» = numberAt s 38 2;
+  «minimum_quality_bps» = numberAt s 40 2;
+  «max_p95_latency_ms» = numberAt s 42 4;
+  «required_capabilities» = numberAt s 46 8;
+  «allowed_provider_mask» = numberAt s 54 8;
+  «required_region_mask» = numberAt s 62 8;
+}
 
-unfoldable pub inputBytes : KernelInput → List ℕ
-inputBytes q = packed requestLayout (inputNumbers q)
-
--- B10. A policy's fields: two epochs, hard risk limit, minimum confidence, risk multiplier, latency penalty
-abbrev pub policyLayout : List Field
-policyLayout = field 0 8 ∷ field 8 8 ∷ field 16 2 ∷ field 18 2 ∷ field 20 2 ∷ field 22 8 ∷ []
-
-abbrev pub policyFrom : List ℕ → PolicySnapshot
-policyFrom vs =
-    record {
-      «policy_epoch» = getD vs 0 0;
-      «catalog_epoch» = getD vs 1 0;
-      «hard_risk_limit_bps» = getD vs 2 0;
-      «minimum_confidence_bps» = getD vs 3 0;
-      «risk_penalty_multiplier_bps» = getD vs 4 0;
-      «latency_penalty_microunits_per_ms» = getD vs 5 0;
-    }
-
-abbrev pub policyNumbers : PolicySnapshot → List ℕ
-policyNumbers p =
-    p .«policy_epoch»
-    ∷ p .«catalog_epoch»
-    ∷ p .«hard_risk_limit_bps»
-    ∷ p .«minimum_confidence_bps»
-    ∷ p .«risk_penalty_multiplier_bps»
-    ∷ p .«latency_penalty_microunits_per_ms»
+-- B12. A request's fields, each beside its width, and the bytes that say them. B2. `ofZ w64` gives the 64 bits of the value
+abbrev pub inputFields : KernelInput → List (ℕ × ℕ)
+inputFields q =
+    (8, q .«request_sequence»)
+    ∷ (4, q .«requested_model_id»)
+    ∷ (4, q .«input_tokens»)
+    ∷ (4, q .«output_tokens»)
+    ∷ (8, ofZ w64 (q .«business_value_microunits»))
+    ∷ (8, q .«budget_limit_microunits»)
+    ∷ (2, q .«risk_bps»)
+    ∷ (2, q .«confidence_bps»)
+    ∷ (2, q .«minimum_quality_bps»)
+    ∷ (4, q .«max_p95_latency_ms»)
+    ∷ (8, q .«required_capabilities»)
+    ∷ (8, q .«allowed_provider_mask»)
+    ∷ (8, q .«required_region_mask»)
     ∷ []
 
-unfoldable pub policyOf : List ℕ → PolicySnapshot
-policyOf s = policyFrom (valuesOf policyLayout s)
+abbrev pub inputBytes : KernelInput → List ℕ
+inputBytes q = packed (inputFields q)
 
-unfoldable pub policyInBytes : PolicySnapshot → List ℕ
-policyInBytes p = packed policyLayout (policyNumbers p)
+-- B10. The policy that 30 bytes say
+unfoldable pub policyOf : List ℕ → PolicySnapshot
+policyOf s = record {
+  «policy_epoch» = numberAt s 0 8;
+  «catalog_epoch» = numberAt s 8 8;
+  «hard_risk_limit_bps» = numberAt s 16 2;
+  «minimum_confidence_bps» = numberAt s 18 2;
+  «risk_penalty_multiplier_bps» = numberAt s 20 2;
+  «latency_penalty_microunits_per_ms» = numberAt s 22 8;
+}
+
+-- B10. A policy's fields, each beside its width, and the bytes that say them
+abbrev pub policyFields : PolicySnapshot → List (ℕ × ℕ)
+policyFields p =
+    (8, p .«policy_epoch»)
+    ∷ (8, p .«catalog_epoch»)
+    ∷ (2, p .«hard_risk_limit_bps»)
+    ∷ (2, p .«minimum_confidence_bps»)
+    ∷ (2, p .«risk_penalty_multiplier_bps»)
+    ∷ (8, p .«latency_penalty_microunits_per_ms»)
+    ∷ []
+
+abbrev pub policyInBytes : PolicySnapshot → List ℕ
+policyInBytes p = packed (policyFields p)
 
 -- B4. How many records so many bytes hold; of a bank, the bytes of the record at a place, and the model that they say
 abbrev pub recordsIn : ℕ → ℕ

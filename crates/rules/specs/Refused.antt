@@ -1,9 +1,11 @@
 -- Document 01, "Numbers handed back": a refusal's number with its values, the tests of a call, and its answer.
 use Prim.Native.Nat.{ℕ, _%_}
+use mathlib.Core.Bool.{Bool, true, false, not}
 use mathlib.Core.List.{List, [], _∷_, _++_}
+use mathlib.Core.Option.{Option, none, some}
+use lib.Dec.{eqb, ltb}
 use lib.ListN.{length}
 use Rattle.rules.specs.Limits.{recordBytes, maxCatalogModels}
-use Rattle.rules.specs.Choice.{below, equal}
 use Rattle.rules.specs.Bytes.{filled}
 use Rattle.rules.specs.Records.{recordsIn}
 use Rattle.rules.specs.declared.refusal.Refusal.{Refusal}
@@ -22,12 +24,9 @@ pub record Fault : Type 0 where
   pub id : ℕ
   pub place : ℕ
 
--- A number alone; 0 stands for no refusal
+-- A number alone
 abbrev pub fault : ℕ → Fault
 fault n = record { number = n; field = 0; value = 0; id = 0; place = 0 }
-
-abbrev pub noFault : Fault
-noFault = fault 0
 
 -- N27. Those that carry values: 3, 10, and 12, 13, 14 and 17 of a model
 abbrev pub inputFault : ℕ → ℕ → ℕ → Fault
@@ -63,33 +62,55 @@ toldRefusal refusal.CutShort = fault 20
 toldRefusal refusal.WrongTag = fault 21
 toldRefusal refusal.WrongLength = fault 22
 
-abbrev pub toldOutcome : Outcome → Fault
-toldOutcome outcome.Answered = noFault
-toldOutcome (outcome.Refused r) = toldRefusal r
+-- What an outcome tells: nothing where it answers, else its refusal's number
+abbrev pub noFault : Option Fault
+noFault = none
 
-abbrev pub toldTrusted : Trusted → Fault
+unfoldable pub toldOutcome : Outcome → Option Fault
+toldOutcome outcome.Answered = noFault
+toldOutcome (outcome.Refused r) = some (toldRefusal r)
+
+abbrev pub toldTrusted : Trusted → Option Fault
 toldTrusted t = toldOutcome (t .outcome)
 
--- The tests of a call are lists: empty, or the one number that a test hands back. Joined in document 01's order, the first one counts
+-- The tests of a call are lists: empty, or what its tests hand back. Joined in document 01's order, the first one counts
 abbrev pub Faults : Type 0
 Faults = List Fault
 
+-- A test: the fault where it holds
+abbrev pub refuseIf : Bool → Fault → Faults
+refuseIf true f = f ∷ []
+refuseIf false f = []
+
+-- N28. The first fault; none where no test hands one back
+unfoldable pub firstFault : Faults → Option Fault
+firstFault [] = noFault
+firstFault (f ∷ fs) = some f
+
+-- N28. Of what two tests tell, one after the other, the first
+unfoldable pub orElse : Option Fault → Option Fault → Option Fault
+orElse none later = later
+orElse (some f) later = some f
+
+-- N28. What the first fault is told as, or the answer where there is none
+abbrev pub unless : {A : Type 0} → Faults → (Fault → A) → A → A
+unless [] told a = a
+unless (f ∷ fs) told a = told f
+
 -- N1, N2. A bank whose length is no multiple of a record's; one with too many records
 unfoldable pub lengthFaults : ℕ → Faults
-lengthFaults n =
-    equal (n % recordBytes) 0 [] (fault 1 ∷ []) ++ below maxCatalogModels (recordsIn n) (fault 2 ∷ []) []
+lengthFaults n = refuseIf (not (eqb (n % recordBytes) 0)) (fault 1) ++ refuseIf (ltb maxCatalogModels (recordsIn n)) (fault 2)
 
 abbrev pub bankFaults : List ℕ → Faults
 bankFaults bank = lengthFaults (length bank)
 
 -- N4. A list, row or buffer with so much room, where so much is needed
 unfoldable pub roomFaults : ℕ → ℕ → Faults
-roomFaults needed room = below room needed (fault 4 ∷ []) []
+roomFaults needed room = refuseIf (ltb room needed) (fault 4)
 
 -- B9, N24. A list, row or buffer at exit: filled, or as it was where there is a fault
 abbrev pub listUnless : {A : Type 0} → Faults → List A → List A → List A
-listUnless [] new list = filled new list
-listUnless (f ∷ fs) new list = list
+listUnless fs new list = unless fs (λ f. list) (filled new list)
 
 -- ---- answers
 
@@ -97,13 +118,3 @@ listUnless (f ∷ fs) new list = list
 pub data Answer (A : Type 0) : Type 0 where
   refused : Fault → Answer A
   answered : A → Answer A
-
--- N28. The first fault, or the answer where there is none
-abbrev pub unless : {A : Type 0} → Faults → Answer A → Answer A
-unless [] a = a
-unless (f ∷ fs) a = refused f
-
--- N28. The first fault alone; no number where there is none
-abbrev pub firstFault : Faults → Fault
-firstFault [] = noFault
-firstFault (f ∷ fs) = f

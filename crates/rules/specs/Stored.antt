@@ -1,14 +1,14 @@
 -- Document 01, "Bytes": the stored form of a policy with its bank, and the request form.
 use Prim.Native.Nat.{ℕ, _+_, _/_, _%_}
-use mathlib.Core.Bool.{Bool, false, cond, _&&_}
+use mathlib.Core.Bool.{Bool, false, not, _&&_}
 use mathlib.Core.List.{List, [], _∷_, _++_}
-use lib.Dec.{eqb, leb}
+use lib.Dec.{eqb, leb, ltb}
 use lib.ListN.{length, take, drop}
 use Rattle.rules.specs.Limits.{policyBytes, fieldHeaderBytes, storedRecordBytes, storedRequestBytes, maxStoredModels}
-use Rattle.rules.specs.Choice.{below, equal}
-use Rattle.rules.specs.Bytes.{field, bytesOf, valueOf}
+use Rattle.rules.specs.Choice.{equal}
+use Rattle.rules.specs.Bytes.{bytesOf, numberAt}
 use Rattle.rules.specs.Records.{policyOf, policyInBytes, inputOf, inputBytes, recordsIn}
-use Rattle.rules.specs.Refused.{Faults, fault, bankFaults, roomFaults, listUnless, Answer, answered, unless}
+use Rattle.rules.specs.Refused.{Faults, fault, bankFaults, roomFaults, listUnless, Answer, answered, unless, refused, refuseIf}
 use Rattle.rules.specs.Numbers.{StoredPolicy}
 use Rattle.rules.specs.declared.records.KernelInput.{KernelInput}
 use Rattle.rules.specs.declared.records.PolicySnapshot.{PolicySnapshot}
@@ -28,10 +28,10 @@ fits tag n =
 
 -- B11. What the field at the front of some bytes says: its tag, the length of its body, its body; and what stands after it
 abbrev pub tagOf : List ℕ → ℕ
-tagOf s = valueOf s (field 0 1)
+tagOf s = numberAt s 0 1
 
 abbrev pub bodyLength : List ℕ → ℕ
-bodyLength s = valueOf s (field 1 2)
+bodyLength s = numberAt s 1 2
 
 unfoldable pub bodyOf : List ℕ → List ℕ
 bodyOf s = take (bodyLength s) (drop fieldHeaderBytes s)
@@ -43,15 +43,15 @@ afterOf s = drop (fieldHeaderBytes + bodyLength s) s
 -- tag doesn't have, 20 for a cut body
 unfoldable pub fieldFaults : ℕ → List ℕ → Faults
 fieldFaults tag s =
-    equal (length s) 0 (fault 21 ∷ []) []
-    ++ below (length s) fieldHeaderBytes (fault 20 ∷ []) []
-    ++ equal (tagOf s) tag [] (fault 21 ∷ [])
-    ++ cond (fits tag (bodyLength s)) [] (fault 22 ∷ [])
-    ++ below (length s) (fieldHeaderBytes + bodyLength s) (fault 20 ∷ []) []
+    refuseIf (eqb (length s) 0) (fault 21)
+    ++ refuseIf (ltb (length s) fieldHeaderBytes) (fault 20)
+    ++ refuseIf (not (eqb (tagOf s) tag)) (fault 21)
+    ++ refuseIf (not (fits tag (bodyLength s))) (fault 22)
+    ++ refuseIf (ltb (length s) (fieldHeaderBytes + bodyLength s)) (fault 20)
 
 -- N21, N25. Fields with these tags, one after the other, then the end: any byte after the last field is 21
 unfoldable pub formFaults : List ℕ → List ℕ → Faults
-formFaults [] s = equal (length s) 0 [] (fault 21 ∷ [])
+formFaults [] s = refuseIf (not (eqb (length s) 0)) (fault 21)
 formFaults (tag ∷ tags) s = fieldFaults tag s ++ formFaults tags (afterOf s)
 
 -- ---- a policy with its bank
@@ -62,13 +62,10 @@ storedForm p bank = fieldBytes 1 (policyInBytes p) ++ fieldBytes 2 bank
 
 -- N18, N23. Writing one: 1, 2, 18, 4; the answer is its length
 unfoldable pub writeFaults : PolicySnapshot → List ℕ → ℕ → Faults
-writeFaults p bank room =
-    bankFaults bank
-    ++ below maxStoredModels (recordsIn (length bank)) (fault 18 ∷ []) []
-    ++ roomFaults (length (storedForm p bank)) room
+writeFaults p bank room = bankFaults bank ++ refuseIf (ltb maxStoredModels (recordsIn (length bank))) (fault 18) ++ roomFaults (length (storedForm p bank)) room
 
 unfoldable pub writeStoredOf : PolicySnapshot → List ℕ → ℕ → Answer ℕ
-writeStoredOf p bank room = unless (writeFaults p bank room) (answered (length (storedForm p bank)))
+writeStoredOf p bank room = unless (writeFaults p bank room) refused (answered (length (storedForm p bank)))
 
 unfoldable pub writeStoredBuffer : PolicySnapshot → List ℕ → List ℕ → List ℕ
 writeStoredBuffer p bank buffer = listUnless (writeFaults p bank (length buffer)) (storedForm p bank) buffer
@@ -85,9 +82,7 @@ unfoldable pub readFaults : List ℕ → ℕ → Faults
 readFaults form room = formFaults (1 ∷ 2 ∷ []) form ++ roomFaults (length (storedBank form)) room
 
 unfoldable pub readStoredOf : List ℕ → ℕ → Answer StoredPolicy
-readStoredOf form room =
-    unless (readFaults form room)
-    (answered (record { policy = storedPolicy form; size = length (storedBank form) }))
+readStoredOf form room = unless (readFaults form room) refused (answered (record { policy = storedPolicy form; size = length (storedBank form) }))
 
 -- B11. The models' bytes at the start of the lent buffer, its other bytes as they were
 unfoldable pub readStoredBuffer : List ℕ → List ℕ → List ℕ
@@ -100,10 +95,10 @@ unfoldable pub requestForm : KernelInput → List ℕ
 requestForm q = fieldBytes 3 (inputBytes q)
 
 unfoldable pub writeRequestOf : KernelInput → ℕ → Answer ℕ
-writeRequestOf q room = unless (roomFaults (length (requestForm q)) room) (answered (length (requestForm q)))
+writeRequestOf q room = unless (roomFaults (length (requestForm q)) room) refused (answered (length (requestForm q)))
 
 unfoldable pub writeRequestBuffer : KernelInput → List ℕ → List ℕ
 writeRequestBuffer q buffer = listUnless (roomFaults (length (requestForm q)) (length buffer)) (requestForm q) buffer
 
 unfoldable pub readRequestOf : List ℕ → Answer KernelInput
-readRequestOf form = unless (formFaults (3 ∷ []) form) (answered (inputOf (bodyOf form)))
+readRequestOf form = unless (formFaults (3 ∷ []) form) refused (answered (inputOf (bodyOf form)))

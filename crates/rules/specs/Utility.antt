@@ -35,8 +35,7 @@ held (negsuc n) = negsuc (min n maxI64)
 
 -- D19. Quality less risk, cost and latency, exact; then held
 unfoldable pub exactUtilityOf : PolicySnapshot → KernelModel → KernelInput → ℤ
-exactUtilityOf p m q =
-    pos (qualityTermOf m q) -ℤ pos (riskTermOf p q) -ℤ pos (costOf m q) -ℤ pos (latencyTermOf p m)
+exactUtilityOf p m q = pos (qualityTermOf m q) -ℤ pos (riskTermOf p q) -ℤ pos (costOf m q) -ℤ pos (latencyTermOf p m)
 
 unfoldable pub utilityOf : PolicySnapshot → KernelModel → KernelInput → ℤ
 utilityOf p m q = held (exactUtilityOf p m q)

@@ -26,25 +26,17 @@ overBudget cost budget = twoNumbers 2 0 cost budget
 -- A verdict that carries the terms
 abbrev pub withTerms : PolicySnapshot → KernelInput → KernelModel → ℕ → Verdict
 withTerms p q m n =
-    record {
-      verdict = n;
-      gate = 0;
-      first = qualityTermOf m q;
-      second = riskTermOf p q;
-      cost = costOf m q;
-      latency = latencyTermOf p m;
-      utility = utilityOf p m q;
-    }
+    record { kind = n; gate = 0; first = qualityTermOf m q; second = riskTermOf p q; cost = costOf m q; latency = latencyTermOf p m; utility = utilityOf p m q }
 
 -- D19. Verdict 3 where the utility is 0 or less, else 4
-unfoldable pub pricedOf : PolicySnapshot → KernelInput → KernelModel → Verdict
-pricedOf p q m = withTerms p q m (cond (leZ (utilityOf p m q) (pos 0)) 3 4)
+unfoldable pub byUtility : PolicySnapshot → KernelInput → KernelModel → Verdict
+byUtility p q m = withTerms p q m (cond (leZ (utilityOf p m q) (pos 0)) 3 4)
 
 -- D3, D14, D19. A gate that fails, then the budget, then the utility
 unfoldable pub verdictOf : PolicySnapshot → KernelInput → KernelModel → Verdict
 verdictOf p q m =
     below 0 (gateOf m q) (rejected (gateOf m q) (detailOf m q (gateOf m q)))
-    (below (q .«budget_limit_microunits») (costOf m q) (overBudget (costOf m q) (q .«budget_limit_microunits»)) (pricedOf p q m))
+    (below (q .«budget_limit_microunits») (costOf m q) (overBudget (costOf m q) (q .«budget_limit_microunits»)) (byUtility p q m))
 
 -- A listed record with what it is told
 pub record Judged : Type 0 where

@@ -3,7 +3,7 @@ use Prim.Native.Nat.{ℕ}
 use mathlib.Core.List.{List}
 use lib.ListN.{set}
 use Rattle.rules.specs.Records.{Listed, listed, listedOf}
-use Rattle.rules.specs.Refused.{bankFaults, Answer, answered, unless}
+use Rattle.rules.specs.Refused.{bankFaults, Answer, answered, unless, refused}
 use Rattle.rules.specs.Numbers.{Decision}
 use Rattle.rules.specs.Decide.{decisionOf}
 use Rattle.rules.specs.declared.records.KernelModel.{KernelModel}
@@ -16,4 +16,4 @@ withModel ls index m = set ls index (listed index m)
 
 -- X7. The decision through a view
 unfoldable pub viewOf : PolicySnapshot → KernelInput → List ℕ → ℕ → KernelModel → Answer Decision
-viewOf p q bank index m = unless (bankFaults bank) (answered (decisionOf p q (withModel (listedOf bank) index m)))
+viewOf p q bank index m = unless (bankFaults bank) refused (answered (decisionOf p q (withModel (listedOf bank) index m)))

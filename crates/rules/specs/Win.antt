@@ -7,12 +7,12 @@ use lib.Dec.{eqb}
 use Rattle.rules.specs.Limits.{maxBps, ppm}
 use Rattle.rules.specs.Choice.{pick}
 use Rattle.rules.specs.Records.{Listed, listedOf}
-use Rattle.rules.specs.Refused.{fault, bankFaults}
+use Rattle.rules.specs.Refused.{fault, bankFaults, unless}
 use Rattle.rules.specs.Numbers.{Decision, Boundary}
 use Rattle.rules.specs.Decide.{stoppedBy, decisionOf}
 use Rattle.rules.specs.Listing.{firstListed}
 use Rattle.rules.specs.Halving.{Lowest, Highest, searchOf}
-use Rattle.rules.specs.Levers.{Question, wins, selects, Sought, entry, plain, priced, andThen, noSearch, boundaryOf, boundaryRefused, boundaryUnless}
+use Rattle.rules.specs.Levers.{Question, wins, selects, Sought, entry, plain, priced, andThen, noSearch, boundaryOf, boundaryRefused}
 use Rattle.rules.specs.declared.records.KernelInput.{KernelInput}
 use Rattle.rules.specs.declared.records.PolicySnapshot.{PolicySnapshot}
 
@@ -43,12 +43,11 @@ winFor a d =
 -- N5. An id that isn't listed is refused, whatever stops the request
 abbrev pub winIfListed : PolicySnapshot → KernelInput → List Listed → ℕ → Option Listed → Boundary
 winIfListed p q ls id none = boundaryRefused (fault 5)
-winIfListed p q ls id (some l) =
-    winFor (record { policy = p; request = q; list = ls; id = id; model = l .model }) (decisionOf p q ls)
+winIfListed p q ls id (some l) = winFor (record { policy = p; request = q; list = ls; id = id; model = l .model }) (decisionOf p q ls)
 
 unfoldable pub winIn : PolicySnapshot → KernelInput → List Listed → ℕ → Boundary
 winIn p q ls id = winIfListed p q ls id (firstListed id ls)
 
 -- `what_would_win` over a bank
 unfoldable pub whatWouldWinOf : PolicySnapshot → KernelInput → List ℕ → ℕ → Boundary
-whatWouldWinOf p q bank id = boundaryUnless (bankFaults bank) (winIn p q (listedOf bank) id)
+whatWouldWinOf p q bank id = unless (bankFaults bank) boundaryRefused (winIn p q (listedOf bank) id)

@@ -1,4 +1,5 @@
 -- The question from the desk answered in plain English: a sentence for each lever.
+use Rattle.rules.specs.Refused.{unless}
 use Prim.Native.Nat.{ℕ, _+_, _-_, _/_, _%_}
 use mathlib.Core.Bool.{Bool, false}
 use mathlib.Core.List.{List, [], _∷_, _++_}
@@ -11,7 +12,7 @@ use Rattle.rules.specs.Numbers.{Entry, Boundary}
 use Rattle.rules.specs.Listing.{firstListed}
 use Rattle.rules.specs.Levers.{selects}
 use Rattle.rules.specs.Text.{text, decimal}
-use Rattle.rules.specs.Printed.{programModels, askFaults, askedOf, entriesOf, textUnless}
+use Rattle.rules.specs.Printed.{programModels, askFaults, askedOf, entriesOf, refusedLine}
 
 -- A sentence ends its line
 unfoldable pub sentence : List ℕ → List ℕ
@@ -26,13 +27,11 @@ percent n = decimal (n / 10000) ++ text "." ++ digit (n / 1000) ++ digit (n / 10
 
 -- Quality and ceiling must rise, each in basis points
 unfoldable pub riseWords : List ℕ → Entry → List ℕ
-riseWords name e =
-    sentence (name ++ decimal (e .current) ++ text " basis points today; it must rise to at least " ++ decimal (e .boundary) ++ text ".")
+riseWords name e = sentence (name ++ decimal (e .current) ++ text " basis points today; it must rise to at least " ++ decimal (e .boundary) ++ text ".")
 
 -- Latency must fall
 unfoldable pub latencyWords : Entry → List ℕ
-latencyWords e =
-    sentence (text "Latency: " ++ decimal (e .current) ++ text " ms today; it must fall to at most " ++ decimal (e .boundary) ++ text " ms.")
+latencyWords e = sentence (text "Latency: " ++ decimal (e .current) ++ text " ms today; it must fall to at most " ++ decimal (e .boundary) ++ text " ms.")
 
 -- The price must fall: by how much, to what, and what the request costs then
 unfoldable pub costWords : Option ℕ → List ℕ
@@ -41,12 +40,8 @@ costWords (some c) = text "; the request then costs " ++ decimal c ++ text " mic
 
 unfoldable pub priceWords : Entry → List ℕ
 priceWords e =
-    sentence
-    (text "Price: 100 percent today; it must fall by at least "
-    ++ percent (ppm - e .boundary)
-    ++ text ", to "
-    ++ percent (e .boundary)
-    ++ costWords (e .cost))
+    sentence (text "Price: 100 percent today; it must fall by at least " ++ percent (ppm - e .boundary)
+    ++ text ", to " ++ percent (e .boundary) ++ costWords (e .cost))
 
 -- A model that is only switched off
 unfoldable pub switchWords : ℕ → List ℕ
@@ -79,23 +74,14 @@ noneWords id = sentence (text "No single change would make model " ++ decimal id
 unfoldable pub nothingWords : ℕ → Bool → List ℕ
 nothingWords id off = pick off (λ _. offWords id) (λ _. noneWords id)
 
-abbrev pub isOff : Option Listed → Bool
-isOff none = false
-isOff (some l) = eqb (l .model .enabled) 0
+abbrev pub listedOff : Option Listed → Bool
+listedOff none = false
+listedOff (some l) = eqb (l .model .enabled) 0
 
 unfoldable pub wordsReport : ℕ → Bool → Boundary → List ℕ
 wordsReport id off b =
-    pick (b .blocked)
-    (λ _. stoppedWords (b .decision .reason))
-    (λ _.
-    pick (selects id (b .decision))
-    (λ _. chosenWords id)
-    (λ _.
-    pick (eqb (b .count) 0)
-    (λ _. nothingWords id off)
-    (λ _. leversWords id (entriesOf b))))
+    pick (b .blocked) (λ _. stoppedWords (b .decision .reason)) (λ _. pick (selects id (b .decision)) (λ _. chosenWords id)
+    (λ _. pick (eqb (b .count) 0) (λ _. nothingWords id off) (λ _. leversWords id (entriesOf b))))
 
 unfoldable pub askWords : ℕ → List ℕ → List ℕ
-askWords id input =
-    textUnless (askFaults id input)
-    (wordsReport id (isOff (firstListed id (programModels input))) (askedOf id input))
+askWords id input = unless (askFaults id input) refusedLine (wordsReport id (listedOff (firstListed id (programModels input))) (askedOf id input))

@@ -1,9 +1,4 @@
--- The laws of stable insertion over any key, of moving an element, and of a bank put in order.
-pub mod Moves
-pub mod Inserting
-pub mod Stability
+-- The laws of the mover's loops, of the place of insertion, and of a bank while it is being ordered.
 pub mod Copies
-pub mod Chunks
 pub mod Places
 pub mod Turns
-pub mod Ordered

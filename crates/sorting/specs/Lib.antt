@@ -1,3 +1,2 @@
--- Order by any key, and what moves inside a bank.
-pub mod Keyed
+-- The place of a record among others, and what moves inside a bank.
 pub mod Bytes

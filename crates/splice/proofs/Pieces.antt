@@ -1,20 +1,10 @@
 -- Pieces written into a buffer: none, one, and one more; and what stands there then. Assumes nothing.
-use Prim.Native.Nat.{ℕ, _+_, _≤_, _<_}
-use mathlib.Core.Path.{_≡_, refl, sym, ap, subst, _∙_}
-use mathlib.Core.Bool.{Bool, true, false, cond}
-use mathlib.Core.List.{List, [], _++_, append-assoc}
-use mathlib.Core.Option.{Option, none, some, Option·some-injective, Option·none-ne-some}
-use native.Mathlib.Omega.{arith}
-use native.Mathlib.Nat.{zero-add, add-zero}
-use native.Mathlib.Numerals.{add-one}
-use lib.ListN.{length, take, drop, set, getD, length-append, take-append-drop}
-use lib.Dec.{leb}
-use lib.Seq.{take-at, take-length, paste, paste-zero, paste-suc}
-use Rattle.rules.specs.Bytes.{filled}
+use Rattle.rules.proofs.Kit.{ℕ, _+_, _≤_, _<_, _≡_, refl, sym, ap, subst, _∙_, Bool, true, false, cond, List, [], _++_, append-assoc, Option, none, some}
+use Rattle.rules.proofs.Kit.{Option·some-injective, Option·none-ne-some, arith, zero-add, add-zero, add-one, length, take, drop, set, getD, length-append}
+use Rattle.rules.proofs.Kit.{take-append-drop, leb, take-at, take-length, paste, paste-zero, paste-suc, leb-true}
+use Rattle.rules.specs.{Bytes.filled, Choice.atLeast}
 use Rattle.endian.specs.Put.{patched}
 use Rattle.endian.proofs.Stored.{length-patched, patch-join}
-use borrow.Author.Tests.{leb-true}
-use Rattle.rules.specs.Choice.{atLeast}
 use Rattle.rules.proofs.Choices.{atLeast-yes}
 use Rattle.splice.specs.Placed.{placed}
 

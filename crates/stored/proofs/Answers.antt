@@ -1,15 +1,9 @@
 -- ANY TWO PERMITTED ANSWERS ARE EQUAL, and any two permitted buffers, for each call that a user makes. Assumes nothing.
-use mathlib.Core.List.{List}
-use mathlib.Core.Path.{_≡_, sym, _∙_}
-use Prim.Native.Nat.{ℕ}
-use lib.ListN.{length}
-use Rattle.rules.specs.Numbers.{toldStored, toldRequest, toldWritten}
-use Rattle.rules.specs.Stored.{writeStoredOf, writeStoredBuffer, readStoredOf, readStoredBuffer, writeRequestOf, writeRequestBuffer, readRequestOf}
-use Rattle.rules.specs.declared.records.KernelInput.{KernelInput}
-use Rattle.rules.specs.declared.records.PolicySnapshot.{PolicySnapshot}
-use Rattle.rules.specs.declared.forms.RequestRead.{RequestRead}
-use Rattle.rules.proofs.Told.{Determined}
-use Rattle.rules.proofs.ToldStored.{one-stored, one-request, one-written}
+use Rattle.rules.proofs.Kit.{List, _≡_, sym, _∙_, ℕ, length}
+use Rattle.rules.specs.{Numbers.toldStored, Numbers.toldRequest, Numbers.toldWritten, Stored.writeStoredOf, Stored.writeStoredBuffer, Stored.readStoredOf}
+use Rattle.rules.specs.{Stored.readStoredBuffer, Stored.writeRequestOf, Stored.writeRequestBuffer, Stored.readRequestOf}
+use Rattle.rules.specs.{declared.records.KernelInput.KernelInput, declared.records.PolicySnapshot.PolicySnapshot, declared.forms.RequestRead.RequestRead}
+use Rattle.rules.proofs.{Told.Determined, ToldStored.one-stored, ToldStored.one-request, ToldStored.one-written}
 
 -- an answer with a buffer at exit, as a promise permits them, and that any two such are equal
 abbrev pub Permitted : {A B : Type 0} → (A → B) → B → List ℕ → A → List ℕ → Type 0

@@ -1,29 +1,17 @@
 -- Whole forms both ways: a form that was written passes and says the same, and one that passes is written as it was. Assumes nothing.
-use Prim.Native.Nat.{ℕ, _+_, _%_, _≤_, _<_}
-use mathlib.Core.Path.{_≡_, refl, sym, ap, _∙_}
-use mathlib.Core.Bool.{true}
-use mathlib.Core.List.{List, [], _∷_, _++_, append-nil}
-use native.Mathlib.Omega.{arith}
-use borrow.Author.Tests.{eq-eqb, le-leb}
-use lib.ListN.{length, drop}
-use mir.Syntax.{w64}
-use mir.Val.{SFits}
-use Rattle.rules.specs.Limits.{fieldHeaderBytes, recordBytes, maxCatalogModels, maxStoredModels}
-use Rattle.rules.specs.Choice.{below, equal}
-use Rattle.rules.specs.Records.{policyLayout, policyNumbers, policyOf, policyInBytes, requestLayout, inputNumbers, inputOf, inputBytes, recordsIn}
-use Rattle.rules.specs.Refused.{fault, lengthFaults}
-use Rattle.rules.specs.Stored.{fieldBytes, fits, bodyLength, bodyOf, afterOf, formFaults, storedForm, writeFaults, storedPolicy, storedBank, requestForm}
-use Rattle.rules.specs.declared.records.KernelInput.{KernelInput}
-use Rattle.rules.specs.declared.records.PolicySnapshot.{PolicySnapshot}
-use Rattle.rules.proofs.Choices.{below-no, equal-yes}
+use Rattle.rules.proofs.Kit.{ℕ, _+_, _%_, _≤_, _<_, _≡_, sym, ap, _∙_, true, not, List, [], _∷_, _++_, append-nil, arith, eq-eqb, le-leb, le-ltb, eqb, ltb}
+use Rattle.rules.proofs.Kit.{length, drop, w64, SFits}
+use Rattle.rules.specs.{Limits.fieldHeaderBytes, Limits.recordBytes, Limits.maxCatalogModels, Limits.maxStoredModels, Choice.equal, Records.policyOf}
+use Rattle.rules.specs.{Records.policyInBytes, Records.inputOf, Records.inputBytes, Records.recordsIn, Records.policyFields, Records.inputFields, Refused.fault}
+use Rattle.rules.specs.{Refused.refuseIf, Refused.lengthFaults, Stored.fieldBytes, Stored.fits, Stored.bodyLength, Stored.bodyOf, Stored.afterOf}
+use Rattle.rules.specs.{Stored.formFaults, Stored.storedForm, Stored.writeFaults, Stored.storedPolicy, Stored.storedBank, Stored.requestForm}
+use Rattle.rules.specs.{declared.records.KernelInput.KernelInput, declared.records.PolicySnapshot.PolicySnapshot}
 use Rattle.endian.proofs.Numbers.{Small, small-take, small-drop}
-use Rattle.packing.proofs.Layouts.{Fitting}
-use Rattle.packing.proofs.Trips.{length-policy, length-input, policy-back, input-back, policy-forth, input-forth}
+use Rattle.packing.proofs.{Layouts.Fitting, Trips.length-policy, Trips.length-input, Trips.policy-back, Trips.input-back, Trips.policy-forth, Trips.input-forth}
 use Rattle.rules.proofs.Faults.{below-none, equal-none, none-after, none-first, room-enough}
-use Rattle.stored.proofs.OneField.{Passed, body-length}
-use Rattle.stored.proofs.Forms.{form-passed}
-use Rattle.stored.proofs.Reading.{catalog-fields, policy-length, request-length, fits-bank}
-use Rattle.stored.proofs.Trips.{form-passes, end-passes, body-back, rest-back, written-passes, field-forth, last-forth}
+use Rattle.stored_fields.proofs.{OneField.Passed, OneField.body-length, Forms.form-passed, Lengths.policy-length, Lengths.request-length, Lengths.fits-bank}
+use Rattle.stored.proofs.{Reading.catalog-fields, Trips.form-passes, Trips.end-passes, Trips.body-back, Trips.rest-back, Trips.written-passes}
+use Rattle.stored.proofs.{Trips.field-forth, Trips.last-forth}
 
 -- ---- a field that is the last
 
@@ -47,9 +35,9 @@ pub storable-written : (p : PolicySnapshot) (bank : List ℕ) (room : ℕ) → w
 unfolding writeFaults lengthFaults
 storable-written p bank room e =
     let n = length bank in
-    let own = equal (n % recordBytes) 0 [] (fault 1 ∷ []) in
-    let large = below maxCatalogModels (recordsIn n) (fault 2 ∷ []) [] in
-    let many = below maxStoredModels (recordsIn n) (fault 18 ∷ []) [] in
+    let own = refuseIf (not (eqb (n % recordBytes) 0)) (fault 1) in
+    let large = refuseIf (ltb maxCatalogModels (recordsIn n)) (fault 2) in
+    let many = refuseIf (ltb maxStoredModels (recordsIn n)) (fault 18) in
     let tests : own ++ large ++ many ≡ [] = none-first (own ++ large ++ many) _ e in
     record {
       even = equal-none (n % recordBytes) 0 (fault 1) (none-first own large (none-first (own ++ large) many tests));
@@ -60,9 +48,9 @@ pub storable-none : (p : PolicySnapshot) (bank : List ℕ) (room : ℕ) → Stor
 unfolding writeFaults lengthFaults
 storable-none p bank room s h =
     rw (
-      equal-yes (length bank % recordBytes) 0 _ _ (s .even),
-      below-no maxCatalogModels (recordsIn (length bank)) _ _ (omega (arith, s .few)),
-      below-no maxStoredModels (recordsIn (length bank)) _ _ (s .few),
+      eq-eqb (length bank % recordBytes) 0 (s .even),
+      le-ltb maxCatalogModels (recordsIn (length bank)) (omega (arith, s .few)),
+      le-ltb maxStoredModels (recordsIn (length bank)) (s .few),
     )
     (room-enough (length (storedForm p bank)) room h)
 
@@ -70,30 +58,19 @@ fits-storable : (n : ℕ) → Storable n → fits 2 n ≡ true
 unfolding fits equal
 fits-storable n s = rw (eq-eqb (n % 47) 0 (s .even), le-leb (recordsIn n) 1394 (s .few))
 
-fits-thirty : fits 1 30 ≡ true
-unfolding fits equal
-fits-thirty = refl
-
-fits-seventy : fits 3 70 ≡ true
-unfolding fits equal
-fits-seventy = refl
-
 -- ---- a policy with its bank
 
 module _ (p : PolicySnapshot) (bank : List ℕ) (s : Storable (length bank)) where
   short : length bank < 65536
   short = omega (arith, s .even, s .few)
 
-  thirty : length (policyInBytes p) ≡ 30
-  thirty = length-policy p
-
   after-policy : afterOf (storedForm p bank) ≡ fieldBytes 2 bank
   unfolding storedForm
-  after-policy = rest-back 1 (policyInBytes p) (fieldBytes 2 bank) (omega (arith, thirty))
+  after-policy = rest-back 1 (policyInBytes p) (fieldBytes 2 bank) (omega (arith, length-policy p))
 
   policy-passes : Passed 1 (storedForm p bank)
-  unfolding storedForm
-  policy-passes = written-passes 1 (policyInBytes p) (fieldBytes 2 bank) (omega (arith, thirty)) (rw thirty fits-thirty)
+  unfolding storedForm fits equal
+  policy-passes = written-passes 1 (policyInBytes p) (fieldBytes 2 bank) (omega (arith, length-policy p)) (rw (length-policy p))
 
   -- WHAT WAS WRITTEN PASSES
   pub stored-passes : formFaults (1 ∷ 2 ∷ []) (storedForm p bank) ≡ []
@@ -104,9 +81,9 @@ module _ (p : PolicySnapshot) (bank : List ℕ) (s : Storable (length bank)) whe
   pub stored-bank : storedBank (storedForm p bank) ≡ bank
   stored-bank = ap bodyOf after-policy ∙ last-body 2 bank short
 
-  pub stored-policy : Fitting policyLayout (policyNumbers p) → storedPolicy (storedForm p bank) ≡ p
+  pub stored-policy : Fitting (policyFields p) → storedPolicy (storedForm p bank) ≡ p
   unfolding storedForm
-  stored-policy fit = ap policyOf (body-back 1 (policyInBytes p) (fieldBytes 2 bank) (omega (arith, thirty))) ∙ policy-back p fit
+  stored-policy fit = ap policyOf (body-back 1 (policyInBytes p) (fieldBytes 2 bank) (omega (arith, length-policy p))) ∙ policy-back p fit
 
 -- A body of small bytes is one
 small-body : (s : List ℕ) → Small s → Small (bodyOf s)
@@ -135,16 +112,13 @@ storable-read form e =
 -- ---- a request
 
 module _ (q : KernelInput) where
-  seventy : length (inputBytes q) ≡ 70
-  seventy = length-input q
-
   pub request-passes : formFaults (3 ∷ []) (requestForm q) ≡ []
-  unfolding requestForm
-  request-passes = last-passes 3 (inputBytes q) (omega (arith, seventy)) (rw seventy fits-seventy)
+  unfolding requestForm fits equal
+  request-passes = last-passes 3 (inputBytes q) (omega (arith, length-input q)) (rw (length-input q))
 
-  pub request-says : Fitting requestLayout (inputNumbers q) → SFits w64 (q .«business_value_microunits») → inputOf (bodyOf (requestForm q)) ≡ q
+  pub request-says : Fitting (inputFields q) → SFits w64 (q .«business_value_microunits») → inputOf (bodyOf (requestForm q)) ≡ q
   unfolding requestForm
-  request-says fit sign = ap inputOf (last-body 3 (inputBytes q) (omega (arith, seventy))) ∙ input-back q fit sign
+  request-says fit sign = ap inputOf (last-body 3 (inputBytes q) (omega (arith, length-input q))) ∙ input-back q fit sign
 
 pub request-forth : (form : List ℕ) → Small form → formFaults (3 ∷ []) form ≡ [] → requestForm (inputOf (bodyOf form)) ≡ form
 unfolding requestForm

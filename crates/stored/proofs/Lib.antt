@@ -1,11 +1,7 @@
--- Laws of fields and forms, which callers cite.
-pub mod Buffers
-pub mod OneField
-pub mod Forms
+-- The laws of the two forms, and of the calls.
 pub mod Writing
 pub mod Reading
 pub mod Answers
-pub mod Total
 pub mod Trips
 pub mod FormTrips
 pub mod RoundTrips

@@ -1,26 +1,17 @@
 -- READING WHAT WAS WRITTEN, AND WRITING WHAT WAS READ, as the four calls meet them. That each number fits its field, and each element of a
 -- form is a byte, is a premise here; the types of the calls give it. Assumes nothing.
-use Prim.Native.Nat.{ℕ, _≤_}
-use mathlib.Core.Path.{_≡_, refl, sym, ap, _∙_}
-use mathlib.Core.List.{List, [], _∷_}
-use lib.ListN.{length, take, drop}
-use lib.Seq.{take-at}
-use mir.Syntax.{w64}
-use mir.Val.{SFits}
-use Rattle.rules.specs.Bytes.{filled}
-use Rattle.rules.specs.Records.{policyLayout, policyNumbers, requestLayout, inputNumbers}
-use Rattle.rules.specs.Refused.{Faults, roomFaults, listUnless, answered}
-use Rattle.rules.specs.Numbers.{StoredPolicy}
-use Rattle.rules.specs.Stored.{formFaults, storedForm, writeFaults, writeStoredOf, writeStoredBuffer, storedPolicy, storedBank, readFaults, readStoredOf, readStoredBuffer, requestForm, writeRequestOf, writeRequestBuffer, readRequestOf}
-use Rattle.rules.specs.declared.records.KernelInput.{KernelInput}
-use Rattle.rules.specs.declared.records.PolicySnapshot.{PolicySnapshot}
+use Rattle.rules.proofs.Kit.{ℕ, _≤_, _≡_, refl, sym, ap, _∙_, List, [], _∷_, length, take, drop, take-at, w64, SFits}
+use Rattle.rules.specs.{Bytes.filled, Records.policyFields, Records.inputFields, Refused.Faults, Refused.roomFaults, Refused.listUnless, Refused.answered}
+use Rattle.rules.specs.{Numbers.StoredPolicy, Stored.formFaults, Stored.storedForm, Stored.writeFaults, Stored.writeStoredOf, Stored.writeStoredBuffer}
+use Rattle.rules.specs.{Stored.storedPolicy, Stored.storedBank, Stored.readFaults, Stored.readStoredOf, Stored.readStoredBuffer, Stored.requestForm}
+use Rattle.rules.specs.{Stored.writeRequestOf, Stored.writeRequestBuffer, Stored.readRequestOf, declared.records.KernelInput.KernelInput}
+use Rattle.rules.specs.{declared.records.PolicySnapshot.PolicySnapshot}
 use Rattle.endian.proofs.Numbers.{Small}
 use Rattle.packing.proofs.Layouts.{Fitting}
-use Rattle.splice.proofs.Pieces.{patched-start}
 use Rattle.rules.proofs.Faults.{none-first, room-enough, some-fault}
-use Rattle.stored.proofs.Buffers.{none-answered, passes, fills-in}
-use Rattle.stored.proofs.Reading.{stored-read, request-read}
-use Rattle.stored.proofs.FormTrips.{Storable, storable-written, storable-none, storable-read, stored-passes, stored-bank, stored-policy, stored-forth, request-passes, request-says, request-forth}
+use Rattle.stored_fields.proofs.Buffers.{none-answered}
+use Rattle.stored.proofs.FormTrips.{Storable, storable-written, storable-none, storable-read, stored-passes, stored-bank, stored-policy, stored-forth}
+use Rattle.stored.proofs.FormTrips.{request-passes, request-says, request-forth}
 
 -- What was filled in stands at the start
 front-of : (fs : Faults) (new list : List ℕ) (n : ℕ) → fs ≡ [] → length new ≡ n → take n (listUnless fs new list) ≡ new
@@ -39,18 +30,15 @@ written-form p bank out n e =
     (storable-written p bank (length out) (t .0), front-of (writeFaults p bank (length out)) (storedForm p bank) out n (t .0) (t .1))
 
 -- A form that was written is read, where there is room
-read-none : (p : PolicySnapshot) (bank : List ℕ) → Storable (length bank) → (room : ℕ) → length bank ≤ room → readFaults (storedForm p bank) room ≡ []
-unfolding readFaults
-read-none p bank s room h = rw (stored-passes p bank s, stored-bank p bank s) (room-enough (length bank) room h)
-
-form-read : (p : PolicySnapshot) (bank buffer : List ℕ) → Fitting policyLayout (policyNumbers p) → Storable (length bank) → length bank ≤ length buffer
-    → (readStoredOf (storedForm p bank) (length buffer) ≡ answered (record { policy = p; size = length bank })) × (readStoredBuffer (storedForm p bank) buffer ≡ filled bank buffer)
+form-read : (p : PolicySnapshot) (bank buffer : List ℕ) → Fitting (policyFields p) → Storable (length bank) → length bank ≤ length buffer
+    → (readStoredOf (storedForm p bank) (length buffer) ≡ answered (record { policy = p; size = length bank }))
+    × (readStoredBuffer (storedForm p bank) buffer ≡ filled bank buffer)
+unfolding readStoredOf readStoredBuffer readFaults
 form-read p bank buffer fit s h =
-    let t = stored-read (storedForm p bank) buffer (read-none p bank s (length buffer) h) (sym (stored-policy p bank s fit)) (sym (stored-bank p bank s)) refl in
-    (sym (t .0), sym (t .1) ∙ patched-start buffer bank)
+    rw (stored-passes p bank s, stored-bank p bank s, stored-policy p bank s fit, room-enough (length bank) (length buffer) h) (refl, refl)
 
 -- READING WHAT WAS WRITTEN GIVES THE SAME POLICY AND BANK
-pub write-then-read : (p : PolicySnapshot) (bank out buffer : List ℕ) (n : ℕ) → Fitting policyLayout (policyNumbers p)
+pub write-then-read : (p : PolicySnapshot) (bank out buffer : List ℕ) (n : ℕ) → Fitting (policyFields p)
     → writeStoredOf p bank (length out) ≡ answered n → length bank ≤ length buffer
     → (readStoredOf (take n (writeStoredBuffer p bank out)) (length buffer) ≡ answered (record { policy = p; size = length bank }))
     × (readStoredBuffer (take n (writeStoredBuffer p bank out)) buffer ≡ filled bank buffer)
@@ -73,11 +61,7 @@ read-form form buffer s e =
 form-written : (p : PolicySnapshot) (bank form out : List ℕ) → storedForm p bank ≡ form → Storable (length bank) → length form ≤ length out
     → (writeStoredOf p bank (length out) ≡ answered (length form)) × (writeStoredBuffer p bank out ≡ filled form out)
 unfolding writeStoredOf writeStoredBuffer
-form-written p bank form out e s h =
-    let none : writeFaults p bank (length out) ≡ [] = storable-none p bank (length out) s (rw e h) in (
-      sym (passes (writeFaults p bank (length out)) (answered (length (storedForm p bank))) none) ∙ ap (λ (f : List ℕ). answered (length f)) e,
-      sym (fills-in (writeFaults p bank (length out)) (storedForm p bank) out none) ∙ ap (λ (f : List ℕ). filled f out) e,
-    )
+form-written p bank form out e s h = rw (storable-none p bank (length out) s (rw e h), e) (refl, refl)
 
 -- WRITING WHAT WAS READ GIVES THE SAME BYTES
 pub read-then-write : (form buffer out : List ℕ) (s : StoredPolicy) → Small form → readStoredOf form (length buffer) ≡ answered s → length form ≤ length out
@@ -90,13 +74,13 @@ read-then-write form buffer out s small e h =
 -- ---- a request
 
 -- READING WHAT WAS WRITTEN GIVES THE SAME REQUEST
-pub write-then-read-request : (q : KernelInput) (out : List ℕ) (n : ℕ) → Fitting requestLayout (inputNumbers q) → SFits w64 (q .«business_value_microunits»)
+pub write-then-read-request : (q : KernelInput) (out : List ℕ) (n : ℕ) → Fitting (inputFields q) → SFits w64 (q .«business_value_microunits»)
     → writeRequestOf q (length out) ≡ answered n → readRequestOf (take n (writeRequestBuffer q out)) ≡ answered q
-unfolding writeRequestOf writeRequestBuffer
+unfolding writeRequestOf writeRequestBuffer readRequestOf
 write-then-read-request q out n fit sign e =
     let faults = roomFaults (length (requestForm q)) (length out) in
     let t = none-answered faults _ n e in
-    rw (front-of faults (requestForm q) out n (t .0) (t .1)) (sym (request-read (requestForm q) (request-passes q) (sym (request-says q fit sign))))
+    rw (front-of faults (requestForm q) out n (t .0) (t .1), request-passes q, request-says q fit sign)
 
 -- WRITING WHAT WAS READ GIVES THE SAME BYTES
 pub read-then-write-request : (form out : List ℕ) (q : KernelInput) → Small form → readRequestOf form ≡ answered q → length form ≤ length out
@@ -105,5 +89,4 @@ unfolding readRequestOf writeRequestOf writeRequestBuffer
 read-then-write-request form out q small e h =
     let t = none-answered (formFaults (3 ∷ []) form) _ q e in
     let same : requestForm q ≡ form = ap requestForm (sym (t .1)) ∙ request-forth form small (t .0) in
-    let none : roomFaults (length form) (length out) ≡ [] = room-enough (length form) (length out) h in
-    rw same (sym (passes _ _ none), sym (fills-in _ form out none))
+    rw (same, room-enough (length form) (length out) h) (refl, refl)

@@ -1,18 +1,12 @@
 -- One field both ways, whatever its tag: what was written is read, and what was read is written. Assumes nothing.
-use Prim.Native.Nat.{ℕ, _+_, _≤_, _<_}
-use mathlib.Core.Path.{_≡_, refl, sym, ap, _∙_}
-use mathlib.Core.Bool.{true}
-use mathlib.Core.List.{List, [], _∷_, _++_, append-assoc, append-nil}
-use native.Mathlib.Omega.{arith}
-use lib.ListN.{length, getD, take, drop, length-append, length-take, length-drop, take-append-drop}
-use lib.Seq.{drop-cons, drop-drop, take-append-seam, drop-append-seam}
-use Rattle.rules.specs.Limits.{fieldHeaderBytes}
-use Rattle.rules.specs.Bytes.{bytesOf}
-use Rattle.rules.specs.Stored.{fieldBytes, fits, tagOf, bodyLength, bodyOf, afterOf, fieldFaults, formFaults}
-use Rattle.rules.proofs.Choices.{below-no, equal-yes, equal-no}
+use Rattle.rules.proofs.Kit.{le-ltb, eq-eqb, ne-eqb, ℕ, _+_, _≤_, _<_, _≡_, refl, sym, ap, _∙_, true, List, [], _∷_, _++_, append-assoc, append-nil, arith}
+use Rattle.rules.proofs.Kit.{length, getD, take, drop, length-append, length-take, length-drop, take-append-drop, drop-cons, drop-drop, take-append-seam}
+use Rattle.rules.proofs.Kit.{drop-append-seam}
+use Rattle.rules.specs.{Limits.fieldHeaderBytes, Bytes.bytesOf, Refused.fault, Stored.fieldBytes, Stored.fits, Stored.tagOf, Stored.bodyLength, Stored.bodyOf}
+use Rattle.rules.specs.{Stored.afterOf, Stored.fieldFaults, Stored.formFaults}
 use Rattle.endian.proofs.Numbers.{Small, small-take, small-drop, number-bytes, number-one, bytes-number}
-use Rattle.rules.proofs.Faults.{some-fault}
-use Rattle.stored.proofs.OneField.{Passed, first-tag, body-length}
+use Rattle.rules.proofs.Faults.{equal-none}
+use Rattle.stored_fields.proofs.OneField.{Passed, first-tag, body-length}
 
 -- ---- a field that passes has no fault
 
@@ -20,11 +14,11 @@ pub field-passes : (tag : ℕ) (s : List ℕ) → Passed tag s → fieldFaults t
 unfolding fieldFaults
 field-passes tag s p =
     rw (
-      equal-no (length s) 0 _ _ (λ e. omega (arith, e, p .whole)),
-      below-no (length s) fieldHeaderBytes _ _ (omega (arith, p .whole)),
-      equal-yes (tagOf s) tag _ _ (p .lead),
+      ne-eqb (length s) 0 (λ e. omega (arith, e, p .whole)),
+      le-ltb (length s) fieldHeaderBytes (omega (arith, p .whole)),
+      eq-eqb (tagOf s) tag (p .lead),
       p .right,
-      below-no (length s) (fieldHeaderBytes + bodyLength s) _ _ (p .whole),
+      le-ltb (length s) (fieldHeaderBytes + bodyLength s) (p .whole),
     )
 
 pub form-passes : (tag : ℕ) (tags s : List ℕ) → Passed tag s → formFaults tags (afterOf s) ≡ [] → formFaults (tag ∷ tags) s ≡ []
@@ -34,13 +28,12 @@ form-passes tag tags s p e = rw (field-passes tag s p, e)
 -- THE END, both ways: nothing is left
 pub end-passes : formFaults [] [] ≡ []
 unfolding formFaults
-end-passes = equal-yes 0 0 _ _ refl
+end-passes = refl
 
 pub end-passed : (s : List ℕ) → formFaults [] s ≡ [] → s ≡ []
 unfolding formFaults
 end-passed [] e = refl
-end-passed (b ∷ s) e =
-    some-fault (sym (equal-no (length (b ∷ s)) 0 _ _ (λ (z : length (b ∷ s) ≡ 0). omega arith)) ∙ e)
+end-passed (b ∷ s) e = absurd (omega (arith, equal-none (length (b ∷ s)) 0 (fault 21) e))
 
 -- ---- a field that was written, before some rest
 
@@ -107,4 +100,6 @@ field-forth tag s small p =
 
 -- The last one alone
 pub last-forth : (tag : ℕ) (s : List ℕ) → Small s → Passed tag s → formFaults [] (afterOf s) ≡ [] → fieldBytes tag (bodyOf s) ≡ s
-last-forth tag s small p e = sym (append-nil (fieldBytes tag (bodyOf s))) ∙ ap (λ (t : List ℕ). fieldBytes tag (bodyOf s) ++ t) (sym (end-passed (afterOf s) e)) ∙ field-forth tag s small p
+last-forth tag s small p e =
+    sym (append-nil (fieldBytes tag (bodyOf s))) ∙ ap (λ (t : List ℕ). fieldBytes tag (bodyOf s) ++ t) (sym (end-passed (afterOf s) e))
+    ∙ field-forth tag s small p

@@ -1,2 +1,2 @@
--- What the field reader tells, and what writing refuses.
-pub mod Fields
+-- What writing refuses.
+pub mod Writing

@@ -1,18 +1,12 @@
 // The stored form of a policy with its bank: tag 1, tag 2, the end.
 ghost use mathlib.Core.Path.{_≡_};
 ghost use lib.ListN.{length};
+ghost use Rattle.rules.specs.Refused.{firstFault, toldOutcome};
 ghost use Rattle.rules.specs.Numbers.{toldStored, toldWritten};
 ghost use Rattle.rules.specs.Stored.{writeStoredOf, writeStoredBuffer, readStoredOf, readStoredBuffer};
-ghost use Rattle.outset.specs.Refuse.{leading, toldLeading};
-ghost use Rattle.stored.specs.Fields.{writingFaults};
-use crate::fields::BANK_TAG;
-use crate::fields::POLICY_TAG;
-use crate::fields::after_front;
-use crate::fields::front_body;
-use crate::fields::lay_out;
-use crate::fields::put_field;
+ghost use Rattle.stored.specs.Writing.{writingFaults};
 use bank::unchecked::policy_of;
-use outset::refuse::bank_outcome;
+use call_checks::refuse::bank_outcome;
 use packing::policy_bytes;
 use rules::Outcome;
 use rules::PolicySnapshot;
@@ -24,10 +18,16 @@ use rules::limits::MAX_STORED_MODELS;
 use rules::limits::POLICY_BYTES;
 use rules::limits::RECORD_BYTES;
 use splice::put_bytes;
+use stored_fields::BANK_TAG;
+use stored_fields::POLICY_TAG;
+use stored_fields::after_front;
+use stored_fields::front_body;
+use stored_fields::lay_out;
+use stored_fields::put_field;
 
 // Whether a bank of so many bytes can be written into so much room, and if not, why.
 fn writing(length: usize, room: usize) -> Outcome
-    ensures { λ r. ⌜ toldLeading r ≡ leading (writingFaults length room) ⌝ }
+    ensures { λ r. ⌜ toldOutcome r ≡ firstFault (writingFaults length room) ⌝ }
 {
     let outcome = bank_outcome(length);
     if let Outcome::Refused(refusal) = outcome {

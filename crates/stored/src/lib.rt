@@ -1,7 +1,5 @@
-// The stored form of a policy with its bank, and the request form: read from bytes, and written to a lent buffer. Those passed on here ask
-// nothing of their caller; `fields` is for other crates.
+// The stored form of a policy with its bank, and the request form: read from bytes, and written to a lent buffer. Nothing is asked of a caller.
 mod catalog;
-pub mod fields;
 mod request;
 
 pub use catalog::read_stored;

@@ -3,10 +3,6 @@ ghost use mathlib.Core.Path.{_≡_};
 ghost use lib.ListN.{length};
 ghost use Rattle.rules.specs.Numbers.{toldRequest, toldWritten};
 ghost use Rattle.rules.specs.Stored.{writeRequestOf, writeRequestBuffer, readRequestOf};
-use crate::fields::REQUEST_TAG;
-use crate::fields::front_body;
-use crate::fields::lay_out;
-use crate::fields::put_field;
 use bank::unchecked::input_of;
 use packing::input_bytes;
 use rules::KernelInput;
@@ -16,6 +12,10 @@ use rules::RequestRead;
 use rules::Written;
 use rules::limits::FIELD_HEADER_BYTES;
 use rules::limits::STORED_REQUEST_BYTES;
+use stored_fields::REQUEST_TAG;
+use stored_fields::front_body;
+use stored_fields::lay_out;
+use stored_fields::put_field;
 
 // Writes a request to the start of a buffer, whose other bytes stay. Refused: 4.
 pub fn write_request(input: KernelInput, out: &mut [u8]) -> Written

@@ -1,18 +1,7 @@
 -- A number in decimal digits: one digit at a time, with its sign, and how many there are. Assumes nothing.
-use Prim.Native.Nat.{ℕ, zero, suc, _+_, _-_, _*_, _/_, _%_, _^_, _≤_, _<_}
-use mathlib.Core.Path.{_≡_, refl, ap, _∙_}
-use mathlib.Core.Bool.{Bool, true, false}
-use mathlib.Core.List.{List, [], _∷_, _++_}
-use native.Mathlib.Omega.{arith}
-use native.Mathlib.Nat.{pow-suc}
-use borrow.Author.Tests.{lt-ltb, le-ltb, ltb-true, ltb-false}
-use lib.Dec.{ltb}
-use lib.IntN.{ℤ, pos, negsuc}
-use lib.ListN.{length, length-append}
-use mir.Syntax.{w64}
-use mir.Val.{ofZ, SFits}
-use Rattle.rules.specs.Choice.{pick}
-use Rattle.rules.specs.Text.{text, digitsOf, decimal, signedDecimal}
+use Rattle.rules.proofs.Kit.{ℕ, zero, suc, _+_, _-_, _*_, _/_, _%_, _^_, _≤_, _<_, _≡_, refl, ap, _∙_, Bool, true, false, List, [], _∷_, _++_, arith, pow-suc}
+use Rattle.rules.proofs.Kit.{lt-ltb, le-ltb, ltb-true, ltb-false, ltb, ℤ, pos, negsuc, length, length-append, w64, ofZ, SFits}
+use Rattle.rules.specs.{Choice.pick, Text.text, Text.digitsOf, Text.decimal, Text.signedDecimal}
 
 -- ---- one digit at a time
 

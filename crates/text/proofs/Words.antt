@@ -1,10 +1,5 @@
 -- Words one after the other; and texts, which are the byte strings of code. Assumes nothing.
-use Prim.Native.Nat.{ℕ, _+_, _<_}
-use mathlib.Core.Path.{_≡_, refl, sym, ap, _∙_}
-use mathlib.Core.List.{List, [], _∷_, _++_, map, append-nil, append-assoc}
-use native.Mathlib.Numerals.{add-one}
-use lib.ListN.{length, take, getD}
-use lib.Seq.{take-suc}
+use Rattle.rules.proofs.Kit.{ℕ, _+_, _<_, _≡_, refl, sym, ap, _∙_, List, [], _∷_, _++_, map, append-nil, append-assoc, add-one, length, take, getD, take-suc}
 use Rattle.rules.specs.Text.{text, decimal, spaced}
 
 -- A TEXT IS A BYTE STRING OF CODE: it computes to its bytes, so that `b"-"` is `text "-"`

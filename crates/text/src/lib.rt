@@ -8,7 +8,7 @@ ghost use lib.ListN.{length};
 ghost use Rattle.rules.specs.Text.{decimal, signedDecimal, spaced, line};
 ghost use mathlib.Core.Option.{some};
 ghost use Rattle.splice.specs.Placed.{placed};
-use endian::bits;
+use endian::signed_bits;
 use splice::put_bytes;
 
 // The lowest pattern of 64 bits that says a negative number, and the highest one, which says -1.
@@ -63,7 +63,7 @@ pub fn put_signed(out: &mut [u8], at: usize, n: i64) -> usize
     ensures { λ r. ⌜ some (r, now (out .exit)) ≡ placed (now (out .entry)) at (signedDecimal n) ⌝ }
     ensures { λ r. ⌜ r ≤ at + 20 ⌝ }
 {
-    let pattern = bits(n);
+    let pattern = signed_bits(n);
     if pattern < SIGN {
         return put_decimal(out, at, pattern);
     }

@@ -5,12 +5,12 @@ ghost use Prim.Native.Nat.{_≤_};
 ghost use lib.ListN.{length, take};
 ghost use Rattle.io.specs.Counts.{Counts};
 ghost use Rattle.rules.specs.Printed.{unitText};
-ghost use Rattle.printed.specs.Sizes.{readBytes, unitBytes};
+ghost use Rattle.program_report.specs.Sizes.{readBytes, unitBytes};
 use libc::STDIN_FILENO;
 use libc::STDOUT_FILENO;
-use printed::deliver::end_of;
-use printed::sizes::INPUT_BYTES;
-use printed::sizes::UNIT_BYTES;
+use program_report::deliver::end_of;
+use program_report::sizes::INPUT_BYTES;
+use program_report::sizes::UNIT_BYTES;
 
 // Standard input, as far as an answer depends on it.
 fn read_input(buffer: &mut [u8]) -> usize
@@ -26,7 +26,7 @@ fn answer(input: &[u8], out: &mut [u8]) -> usize
     ensures { λ r. ⌜ Counts r (now (out .exit)) ⌝ }
     ensures { λ r. ⌜ take r (now (out .exit)) ≡ unitText (now (input .entry)) ⌝ }
 {
-    end_of(printed::unit_text(input, out))
+    end_of(program_report::unit_text(input, out))
 }
 
 fn main() {

@@ -8,9 +8,9 @@ ghost use Rattle.rules.specs.Records.{recordsIn, listedOf};
 ghost use Rattle.rules.specs.Numbers.{toldDecision, toldPrescribed};
 ghost use Rattle.rules.specs.Decide.{decisionOf};
 ghost use Rattle.rules.specs.View.{withModel, viewOf};
-use deciding::decide::decide;
-use deciding::stand::decide_with;
-use outset::refuse::bank_outcome;
+use call_checks::refuse::bank_outcome;
+use kernel_decide::decide::decide;
+use kernel_decide::stand::decide_with;
 use packing::model_bytes;
 use rules::KernelDecision;
 use rules::KernelInput;
@@ -77,7 +77,7 @@ pub fn view_decide<'a>(view: View<'a>, policy: PolicySnapshot, input: KernelInpu
 }
 
 // The decision through a view, for callers that hold none. Refused: 1, 2.
-pub fn decided(
+pub fn decide_with_model(
     policy: PolicySnapshot,
     bank: &[u8],
     input: KernelInput,

@@ -1,3 +1,2 @@
 -- That any two permitted answers are equal.
 pub mod Answers
-pub mod FormAnswers

@@ -1,7 +1,5 @@
 -- `bank::part` meets its contract. Assumes nothing.
-use mathlib.Core.Path.{refl}
-use native.Mathlib.Nat.{add-sub-cancel-left}
-use borrow.Author.Needs.{needs}
+use Rattle.rules.proofs.Kit.{refl, add-sub-cancel-left, needs}
 use Rattle.bank.proofs.part.Statement.{statement}
 use Rattle.bank.proofs.part.Tie as tie
 

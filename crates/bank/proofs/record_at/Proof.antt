@@ -1,13 +1,7 @@
 -- `bank::record_at` meets its contract: an answer of `reading` puts the record within the bank, a refusal leaves the empty part at its start.
 -- Assumes nothing.
-use Prim.Native.Nat.{ℕ, _+_, _*_, _≤_}
-use mathlib.Core.Path.{ap, _∙_}
-use native.Mathlib.Omega.{arith}
-use denote.Ref.{now}
-use lib.ListN.{length}
-use Rattle.bank.proofs.Refusals.{answer-within, answer-part, answer-start, refusal-part}
-use borrow.Author.Needs.{needs}
-use Rattle.bank.proofs.record_at.Statement.{statement}
+use Rattle.rules.proofs.Kit.{ℕ, _+_, _*_, _≤_, ap, _∙_, arith, now, length, needs}
+use Rattle.bank.proofs.{Refusals.answer-within, Refusals.answer-part, Refusals.answer-start, Refusals.refusal-part, record_at.Statement.statement}
 use Rattle.bank.proofs.record_at.Tie as tie
 
 -- the record lies within the bank
@@ -27,18 +21,9 @@ returns c =
 
 returns-2 : tie.Need-returns-2
 returns-2 c =
-    let empty = refusal-part _ _ _ _ (c .before .before .before .reading .ensures) (c .before .enum-told2 .given .1) in
+    let empty = refusal-part _ _ _ (c .before .before .before .reading .ensures) _ (c .before .enum-told2 .given .1) in
     (c .part2 .ensures .0 ∙ empty .0, c .part2 .ensures .1 ∙ ap (beyond _) (empty .1))
 
 pub record-at-spec : {M : Type 1} → statement M
-record-at-spec =
-    tie.close
-    (tie.spec
-    (λ c κs. search needs)
-    (λ c. search needs)
-    (λ c. omega (arith, fits c))
-    (λ c κs. omega (arith, fits c))
-    (λ c. search needs)
-    (λ c κs. search needs)
-    returns
-    returns-2)
+record-at-spec = tie.close (tie.spec (λ c κs. search needs) (λ c. search needs) (λ c. omega (arith, fits c)) (λ c κs. omega (arith, fits c)) (λ c. search needs)
+    (λ c κs. search needs) returns returns-2)

@@ -1,8 +1,6 @@
 -- `demands::few_passes` meets its contract: a lent slice holds bytes. Assumes nothing.
-use denote.Ref.{now}
-use Rattle.demands.proofs.Widest.{lent-bytes}
-use Rattle.demands.proofs.Passes.{what-would-win-few, decision-margin-few}
-use Rattle.demands.proofs.few_passes.Statement.{statement}
+use Rattle.rules.proofs.Kit.{now}
+use Rattle.demands.proofs.{Widest.lent-bytes, Passes.what-would-win-few, Passes.decision-margin-few, few_passes.Statement.statement}
 use Rattle.demands.proofs.few_passes.Tie as tie
 
 returns : tie.Need-returns

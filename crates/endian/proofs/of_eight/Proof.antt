@@ -1,7 +1,6 @@
 -- `endian::of_eight` meets its contract: the bytes' sum is the number that they say. Assumes nothing.
-use native.Mathlib.Omega.{arith}
+use Rattle.rules.proofs.Kit.{arith, needs}
 use Rattle.rules.specs.Bytes.{number}
-use borrow.Author.Needs.{needs}
 use Rattle.endian.proofs.of_eight.Statement.{statement}
 use Rattle.endian.proofs.of_eight.Tie as tie
 
@@ -10,21 +9,6 @@ unfolding number
 returns c = omega arith
 
 pub of-eight-spec : {M : Type 1} → statement M
-of-eight-spec =
-    tie.close
-    (tie.spec
-    (λ c. search needs)
-    (λ c. search needs)
-    (λ c. search needs)
-    (λ c. search needs)
-    (λ c. search needs)
-    (λ c. search needs)
-    (λ c. search needs)
-    (λ c. search needs)
-    (λ c. search needs)
-    (λ c. search needs)
-    (λ c. search needs)
-    (λ c. search needs)
-    (λ c. search needs)
-    (λ c. search needs)
-    returns)
+of-eight-spec = tie.close (tie.spec (λ c. search needs) (λ c. search needs) (λ c. search needs) (λ c. search needs) (λ c. search needs) (λ c. search needs)
+    (λ c. search needs) (λ c. search needs) (λ c. search needs) (λ c. search needs) (λ c. search needs) (λ c. search needs) (λ c. search needs)
+    (λ c. search needs) returns)

@@ -1,7 +1,6 @@
 -- `endian::of_four` meets its contract: the bytes' sum is the number that they say. Assumes nothing.
-use native.Mathlib.Omega.{arith}
+use Rattle.rules.proofs.Kit.{arith, needs}
 use Rattle.rules.specs.Bytes.{number}
-use borrow.Author.Needs.{needs}
 use Rattle.endian.proofs.of_four.Statement.{statement}
 use Rattle.endian.proofs.of_four.Tie as tie
 

@@ -1,10 +1,7 @@
 -- `endian::put16` meets its contract: bytes stored one by one are a patch. Assumes nothing.
-use native.Mathlib.Omega.{arith}
-use lib.ListN.{length-set}
+use Rattle.rules.proofs.Kit.{arith, length-set, needs}
 use Rattle.rules.specs.Bytes.{bytesOf}
-use Rattle.endian.proofs.Stored.{stored-patch}
-use borrow.Author.Needs.{needs}
-use Rattle.endian.proofs.put16.Statement.{statement}
+use Rattle.endian.proofs.{Stored.stored-patch, put16.Statement.statement}
 use Rattle.endian.proofs.put16.Tie as tie
 
 returns : tie.Need-returns
@@ -13,4 +10,5 @@ returns c = stored-patch _ _ (bytesOf 2 _) (omega arith)
 
 pub put16-spec : {M : Type 1} → statement M
 put16-spec =
-    tie.close (tie.spec (λ c. search needs) (λ c. search needs) (λ c. search needs) (λ c. search needs) (λ c. simp length-set (omega arith)) (λ c. search needs) returns)
+    tie.close (tie.spec (λ c. search needs) (λ c. search needs) (λ c. search needs) (λ c. search needs) (λ c. simp length-set (omega arith))
+    (λ c. search needs) returns)

@@ -1,10 +1,5 @@
 -- `endian::signed` meets its contract: turned over twice, the bits are the same. Assumes nothing.
-use Prim.Native.Nat.{_-_}
-use mathlib.Core.Path.{_≡_, ap}
-use native.Mathlib.Omega.{arith}
-use mir.Syntax.{w64}
-use mir.Val.{toZ}
-use borrow.Author.Needs.{needs}
+use Rattle.rules.proofs.Kit.{_-_, _≡_, ap, arith, w64, toZ, needs}
 use Rattle.endian.proofs.signed.Statement.{statement}
 use Rattle.endian.proofs.signed.Tie as tie
 

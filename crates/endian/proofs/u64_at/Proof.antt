@@ -1,10 +1,6 @@
 -- `endian::u64_at` meets its contract: the bytes read one by one are those of the part. Assumes nothing.
-use denote.Ref.{now}
-use mathlib.Core.Path.{_∙_}
-use native.Mathlib.Omega.{arith}
-use Rattle.endian.proofs.Spelled.{number-at}
-use borrow.Author.Needs.{needs}
-use Rattle.endian.proofs.u64_at.Statement.{statement}
+use Rattle.rules.proofs.Kit.{now, _∙_, arith, needs}
+use Rattle.endian.proofs.{Spelled.number-at, u64_at.Statement.statement}
 use Rattle.endian.proofs.u64_at.Tie as tie
 
 returns : tie.Need-returns
@@ -13,23 +9,6 @@ returns c =
     c .of-eight .ensures ∙ number-at 7 (now (a .s)) (a .at) (omega arith)
 
 pub u64-at-spec : {M : Type 1} → statement M
-u64-at-spec =
-    tie.close
-    (tie.spec
-    (λ c. search needs)
-    (λ c. search needs)
-    (λ c. search needs)
-    (λ c. search needs)
-    (λ c. search needs)
-    (λ c. search needs)
-    (λ c. search needs)
-    (λ c. search needs)
-    (λ c. search needs)
-    (λ c. search needs)
-    (λ c. search needs)
-    (λ c. search needs)
-    (λ c. search needs)
-    (λ c. search needs)
-    (λ c. search needs)
-    (λ c κs. search needs)
-    returns)
+u64-at-spec = tie.close (tie.spec (λ c. search needs) (λ c. search needs) (λ c. search needs) (λ c. search needs) (λ c. search needs) (λ c. search needs)
+    (λ c. search needs) (λ c. search needs) (λ c. search needs) (λ c. search needs) (λ c. search needs) (λ c. search needs) (λ c. search needs)
+    (λ c. search needs) (λ c. search needs) (λ c κs. search needs) returns)

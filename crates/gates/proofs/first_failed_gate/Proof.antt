@@ -1,15 +1,7 @@
 -- `gates::first_failed_gate` meets its contract: each test that is passed leaves the tests after it. Assumes nothing.
-use Prim.Native.Nat.{ℕ, suc, _<_, _≤_}
-use native.Mathlib.Omega.{arith}
-use mathlib.Core.Path.{_≡_, sym, _∙_}
-use mathlib.Core.List.{[], _∷_}
-use lib.ListN.{drop}
-use borrow.Author.Needs.{needs}
-use borrow.Author.Tests.{eq-eqb, ne-eqb, lt-ltb, le-ltb}
-use Rattle.rules.specs.Limits.{maxProviderId}
-use Rattle.rules.specs.Gates.{isOff, isPoor, isSlow, isUnable, isUnknown, isBarred, isElsewhere, isRisky, firstOf, gateOf}
-use Rattle.rules.specs.declared.records.KernelModel.{KernelModel}
-use Rattle.rules.specs.declared.records.KernelInput.{KernelInput}
+use Rattle.rules.proofs.Kit.{ℕ, suc, _<_, _≤_, arith, _≡_, sym, _∙_, [], _∷_, drop, needs, eq-eqb, ne-eqb, lt-ltb, le-ltb}
+use Rattle.rules.specs.{Limits.maxProviderId, Gates.isOff, Gates.isPoor, Gates.isSlow, Gates.isUnable, Gates.isUnknown, Gates.isBarred, Gates.isElsewhere}
+use Rattle.rules.specs.{Gates.isRisky, Gates.firstOf, Gates.gateOf, declared.records.KernelModel.KernelModel, declared.records.KernelInput.KernelInput}
 use Rattle.gates.proofs.first_failed_gate.Statement.{statement}
 use Rattle.gates.proofs.first_failed_gate.Tie as tie
 
@@ -111,19 +103,5 @@ returns-9 c =
     sym (passed7 e ∙ rw (le-ltb _ _ h))
 
 pub first-failed-gate-spec : {M : Type 1} → statement M
-first-failed-gate-spec =
-    tie.close
-    (tie.spec
-    returns
-    returns-2
-    (λ c κs. search needs)
-    returns-3
-    (λ c κs. search needs)
-    returns-4
-    returns-5
-    (λ c κs. search needs)
-    returns-6
-    (λ c κs. search needs)
-    returns-7
-    returns-8
-    returns-9)
+first-failed-gate-spec = tie.close (tie.spec returns returns-2 (λ c κs. search needs) returns-3 (λ c κs. search needs) returns-4 returns-5
+    (λ c κs. search needs) returns-6 (λ c κs. search needs) returns-7 returns-8 returns-9)

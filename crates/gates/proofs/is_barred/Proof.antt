@@ -1,13 +1,6 @@
 -- `gates::is_barred` meets its contract: in a mask of all ones every provider's bit is set. Assumes nothing.
-use Prim.Native.Nat.{ℕ, zero, suc, _/_, _%_, _^_, _<_, _≤_}
-use mathlib.Core.Path.{_≡_, refl, ap, subst, _∙_}
-use mathlib.Core.Bool.{Bool, true, false, not, _&&_, false≢true}
-use native.Mathlib.Omega.{arith}
-use native.Mathlib.Decide.{decLt}
-use native.Mathlib.Nat.{lt-of-not-le, le-of-suc-le-suc}
-use borrow.Author.Needs.{needs}
-use borrow.Author.Tests.{eqb-true}
-use lib.Dec.{eqb}
+use Rattle.rules.proofs.Kit.{ℕ, zero, suc, _/_, _%_, _^_, _<_, _≤_, _≡_, refl, ap, subst, _∙_, Bool, true, false, not, _&&_, false≢true, arith, decLt}
+use Rattle.rules.proofs.Kit.{lt-of-not-le, le-of-suc-le-suc, needs, eqb-true, eqb}
 use Rattle.rules.specs.Limits.{allOnes}
 use Rattle.gates.proofs.is_barred.Statement.{statement}
 use Rattle.gates.proofs.is_barred.Tie as tie

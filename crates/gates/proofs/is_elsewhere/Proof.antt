@@ -1,5 +1,5 @@
 -- `gates::is_elsewhere` meets its contract: with no region required the common bits are not asked. Assumes nothing.
-use borrow.Author.Tests.{eq-eqb, ne-eqb}
+use Rattle.rules.proofs.Kit.{eq-eqb, ne-eqb}
 use Rattle.gates.proofs.is_elsewhere.Statement.{statement}
 use Rattle.gates.proofs.is_elsewhere.Tie as tie
 

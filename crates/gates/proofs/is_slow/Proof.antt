@@ -1,13 +1,5 @@
 -- `gates::is_slow` meets its contract: less one, no limit is above every latency. Assumes nothing.
-use Prim.Native.Nat.{ℕ, _+_, _-_, _%_, _^_, _<_}
-use mathlib.Core.Path.{_≡_, sym, ap₂, _∙_}
-use mathlib.Core.Bool.{_&&_}
-use native.Mathlib.Omega.{arith}
-use native.Mathlib.Decide.{decLt}
-use native.Mathlib.Nat.{lt-of-not-le, le-of-suc-le-suc}
-use borrow.Author.Needs.{needs}
-use borrow.Author.Tests.{lt-ltb, le-ltb}
-use lib.Dec.{ltb}
+use Rattle.rules.proofs.Kit.{ℕ, _+_, _-_, _%_, _^_, _<_, _≡_, sym, ap₂, _∙_, _&&_, arith, decLt, lt-of-not-le, le-of-suc-le-suc, needs, lt-ltb, le-ltb, ltb}
 use Rattle.gates.proofs.is_slow.Statement.{statement}
 use Rattle.gates.proofs.is_slow.Tie as tie
 
@@ -29,7 +21,8 @@ module _ (l m : ℕ) (p : l < 2 ^ 32) (q : m < 2 ^ 32) where
 returns : tie.Need-returns
 returns c =
     let s = c .before .before .args in
-    ap₂ ltb (c .before .one-below .ensures) (c .one-less .ensures) ∙ one-test (s .input .«max_p95_latency_ms») (s .model .«p95_latency_ms») (omega arith) (omega arith)
+    ap₂ ltb (c .before .limit-less-one .ensures) (c .latency-less-one .ensures)
+    ∙ one-test (s .input .«max_p95_latency_ms») (s .model .«p95_latency_ms») (omega arith) (omega arith)
 
 pub is-slow-spec : {M : Type 1} → statement M
 is-slow-spec = tie.close (tie.spec (λ c κs. search needs) (λ c κs. search needs) returns)

@@ -1,9 +1,7 @@
 -- `gates::raised` meets its contract, arm by arm; 5 and 6 come as one range, and no gate's number on either side of 1 to 8. Assumes nothing.
-use mathlib.Core.Logic.{inl, inr}
-use Rattle.rules.specs.Choice.{equal}
-use Rattle.rules.specs.Count.{gateReason, raisedBy}
+use Rattle.rules.proofs.Kit.{inl, inr, needs}
+use Rattle.rules.specs.{Choice.equal, Count.gateReason, Count.raisedBy}
 use Rattle.rules.proofs.Reasons.{past, reason-none, reason-shared}
-use borrow.Author.Needs.{needs}
 use Rattle.gates.proofs.raised.Statement.{statement}
 use Rattle.gates.proofs.raised.Tie as tie
 
@@ -49,22 +47,5 @@ returns-9 c =
     rw (reason-none _ (inr (past (past (c .if2 .left) (n .0 .1)) (n .1))))
 
 pub raised-spec : {M : Type 1} → statement M
-raised-spec =
-    tie.close
-    (tie.spec
-    (λ c. search needs)
-    (λ c. search needs)
-    (λ c. search needs)
-    (λ c. search needs)
-    (λ c. search needs)
-    (λ c. search needs)
-    (λ c. search needs)
-    returns
-    returns-2
-    returns-3
-    returns-4
-    returns-5
-    returns-6
-    returns-7
-    returns-8
-    returns-9)
+raised-spec = tie.close (tie.spec (λ c. search needs) (λ c. search needs) (λ c. search needs) (λ c. search needs) (λ c. search needs) (λ c. search needs)
+    (λ c. search needs) returns returns-2 returns-3 returns-4 returns-5 returns-6 returns-7 returns-8 returns-9)

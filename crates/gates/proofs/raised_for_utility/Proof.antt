@@ -1,8 +1,6 @@
 -- `gates::raised_for_utility` meets its contract. Assumes nothing.
-use mathlib.Core.Path.{refl}
-use Rattle.rules.specs.Choice.{equal}
-use Rattle.rules.specs.Count.{raisedBy}
-use borrow.Author.Needs.{needs}
+use Rattle.rules.proofs.Kit.{refl, needs}
+use Rattle.rules.specs.{Choice.equal, Count.raisedBy}
 use Rattle.gates.proofs.raised_for_utility.Statement.{statement}
 use Rattle.gates.proofs.raised_for_utility.Tie as tie
 

@@ -1,9 +1,6 @@
 -- `limbs::add` meets its contract: limb by limb, or with a carry into the upper limb. Assumes nothing.
-use Prim.Native.Nat.{_^_, _+_, _<_}
-use native.Mathlib.Omega.{arith}
-use borrow.Author.Needs.{needs}
-use Rattle.limbs.proofs.Limbs.{in-limbs, sum-room, sum-plain, sum-carry}
-use Rattle.limbs.proofs.add.Statement.{statement}
+use Rattle.rules.proofs.Kit.{_^_, _+_, _<_, arith, needs}
+use Rattle.limbs.proofs.{Limbs.in-limbs, Limbs.sum-room, Limbs.sum-plain, Limbs.sum-carry, add.Statement.statement}
 use Rattle.limbs.proofs.add.Tie as tie
 
 room : (c : tie.Start) → c .args .a .hi + c .args .b .hi < 2 ^ 62
@@ -16,16 +13,5 @@ returns-2 : tie.Need-returns-2
 returns-2 c = sum-carry in-limbs _ _ _ _ _ _ (omega arith) (omega arith)
 
 pub add-spec : {M : Type 1} → statement M
-add-spec =
-    tie.close
-    (tie.spec
-    (λ c. search needs)
-    (λ c. omega (arith, room (c .before)))
-    (λ c. search needs)
-    returns
-    (λ c. omega (arith, room (c .before)))
-    (λ c. omega (arith, room (c .before)))
-    (λ c. search needs)
-    (λ c. search needs)
-    (λ c. search needs)
-    returns-2)
+add-spec = tie.close (tie.spec (λ c. search needs) (λ c. omega (arith, room (c .before))) (λ c. search needs) returns (λ c. omega (arith, room (c .before)))
+    (λ c. omega (arith, room (c .before))) (λ c. search needs) (λ c. search needs) (λ c. search needs) returns-2)

@@ -1,8 +1,7 @@
 -- `limbs::held` meets its contract: with an upper limb of 0 the number is its lower limb, else it is above a u64's.
 -- Assumes nothing.
-use native.Mathlib.Omega.{arith}
-use Rattle.limbs.proofs.Limbs.{in-limbs, one-digit, two-digits}
-use Rattle.limbs.proofs.held.Statement.{statement}
+use Rattle.rules.proofs.Kit.{arith}
+use Rattle.limbs.proofs.{Limbs.in-limbs, Limbs.one-digit, Limbs.two-digits, held.Statement.statement}
 use Rattle.limbs.proofs.held.Tie as tie
 
 returns : tie.Need-returns

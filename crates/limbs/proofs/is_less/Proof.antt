@@ -1,10 +1,7 @@
 -- `limbs::is_less` meets its contract: the lower limbs decide where the upper ones are level. Assumes nothing.
-use native.Mathlib.Nat.{le-of-lt}
-use native.Mathlib.Omega.{arith}
-use borrow.Author.Tests.{ltb-true, ltb-false}
+use Rattle.rules.proofs.Kit.{le-of-lt, arith, ltb-true, ltb-false}
 use Rattle.rules.specs.Wide.{val}
-use Rattle.limbs.proofs.Limbs.{in-limbs, same-upper, upper-lt, decides}
-use Rattle.limbs.proofs.is_less.Statement.{statement}
+use Rattle.limbs.proofs.{Limbs.in-limbs, Limbs.same-upper, Limbs.upper-lt, Limbs.decides, is_less.Statement.statement}
 use Rattle.limbs.proofs.is_less.Tie as tie
 
 returns : tie.Need-returns

@@ -1,7 +1,6 @@
 -- `limbs::of_one` meets its contract: an upper limb of 0 adds nothing. Assumes nothing.
-use native.Mathlib.Omega.{arith}
-use Rattle.limbs.proofs.Limbs.{limbs-is}
-use Rattle.limbs.proofs.of_one.Statement.{statement}
+use Rattle.rules.proofs.Kit.{arith}
+use Rattle.limbs.proofs.{Limbs.limbs-is, of_one.Statement.statement}
 use Rattle.limbs.proofs.of_one.Tie as tie
 
 returns : tie.Need-returns

@@ -1,10 +1,7 @@
 -- `limbs::product` meets its contract: the four products of halves are small enough to add up, and make the whole.
 -- Assumes nothing.
-use Prim.Native.Nat.{_^_}
-use native.Mathlib.Omega.{arith}
-use borrow.Author.Needs.{needs}
-use Rattle.limbs.proofs.Limbs.{limbs-is, Halves, halves, four-products}
-use Rattle.limbs.proofs.product.Statement.{statement}
+use Rattle.rules.proofs.Kit.{_^_, arith, needs}
+use Rattle.limbs.proofs.{Limbs.limbs-is, Limbs.Halves, Limbs.halves, Limbs.four-products, product.Statement.statement}
 use Rattle.limbs.proofs.product.Tie as tie
 
 known : (c : tie.Start) → Halves 32 (c .args .u) (c .args .v)
@@ -14,17 +11,6 @@ returns : tie.Need-returns
 returns c = rw limbs-is (omega (arith, four-products (2 ^ 32) (c .args .u) (c .args .v)))
 
 pub product-spec : {M : Type 1} → statement M
-product-spec =
-    tie.close
-    (tie.spec
-    (λ c. omega (arith, known c))
-    (λ c. omega (arith, known c))
-    (λ c. omega (arith, known c))
-    (λ c. omega (arith, known c))
-    (λ c. omega (arith, known c))
-    (λ c. omega (arith, known c))
-    (λ c. omega (arith, known c))
-    (λ c. omega (arith, known c))
-    (λ c. search needs)
-    (λ c. search needs)
-    returns)
+product-spec = tie.close (tie.spec (λ c. omega (arith, known c)) (λ c. omega (arith, known c)) (λ c. omega (arith, known c)) (λ c. omega (arith, known c))
+    (λ c. omega (arith, known c)) (λ c. omega (arith, known c)) (λ c. omega (arith, known c)) (λ c. omega (arith, known c)) (λ c. search needs)
+    (λ c. search needs) returns)

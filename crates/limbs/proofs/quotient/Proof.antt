@@ -1,18 +1,15 @@
 -- `limbs::quotient` meets its contract: the upper limb's division leaves its remainder to the lower limb's. Assumes nothing.
-use mathlib.Core.Path.{refl}
-use native.Mathlib.Omega.{arith}
-use borrow.Author.Needs.{needs}
-use Rattle.limbs.proofs.Limbs.{in-limbs, one-digit}
-use Rattle.limbs.proofs.Turns.{two-quotients}
-use Rattle.limbs.proofs.quotient.Statement.{statement}
+use Rattle.rules.proofs.Kit.{refl, arith, needs}
+use Rattle.limbs.proofs.{Limbs.in-limbs, Limbs.one-digit, Turns.two-quotients, quotient.Statement.statement}
 use Rattle.limbs.proofs.quotient.Tie as tie
 
 returns : tie.Need-returns
 returns c =
     let s = c .before .before .args in
-    let up = c .before .bits in
-    let down = c .bits2 in
-    two-quotients (s .d) (s .w .hi) (s .w .lo) _ (up .result .rem) _ (down .result .rem) (omega (arith, one-digit in-limbs 0 (s .w .hi) refl)) (omega arith) (omega arith)
+    let up = c .before .divide-limb in
+    let down = c .divide-limb2 in
+    two-quotients (s .d) (s .w .hi) (s .w .lo) _ (up .result .rem) _ (down .result .rem) (omega (arith, one-digit in-limbs 0 (s .w .hi) refl)) (omega arith)
+    (omega arith)
 
 pub quotient-spec : {M : Type 1} → statement M
 quotient-spec = tie.close (tie.spec (λ c κs. search needs) (λ c κs. search needs) returns)

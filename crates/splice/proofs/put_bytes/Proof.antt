@@ -1,11 +1,6 @@
 -- `splice::put_bytes` meets its contract. The loop's invariant: the first i bytes are copied in. Assumes nothing.
-use Prim.Native.Nat.{_-_, _≤_}
-use mathlib.Core.Path.{_≡_, refl, _∙_}
-use native.Mathlib.Omega.{arith}
-use lib.ListN.{length, length-set}
-use borrow.Author.Needs.{needs}
-use Rattle.splice.proofs.Pieces.{copied, copied-none, copied-more, copied-all}
-use Rattle.splice.proofs.put_bytes.Statement.{statement}
+use Rattle.rules.proofs.Kit.{_-_, _≤_, _≡_, refl, _∙_, arith, length, length-set, needs}
+use Rattle.splice.proofs.{Pieces.copied, Pieces.copied-none, Pieces.copied-more, Pieces.copied-all, put_bytes.Statement.statement}
 use Rattle.splice.proofs.put_bytes.Tie as tie
 
 abbrev Inv-loop : tie.InvT-loop
@@ -26,17 +21,5 @@ returns : tie.Need-returns Inv-loop μ-loop
 returns c = c .before .loop .inv .2 ∙ copied-all _ _ _ _ (omega arith)
 
 pub put-bytes-spec : {M : Type 1} → statement M
-put-bytes-spec =
-    tie.close
-    (tie.spec
-    Inv-loop
-    μ-loop
-    loop-holds
-    (λ c. search needs)
-    (λ c. search needs)
-    (λ c. search needs)
-    (λ c. search needs)
-    (λ c. search needs)
-    loop-again
-    (λ c. search needs)
-    returns)
+put-bytes-spec = tie.close (tie.spec Inv-loop μ-loop loop-holds (λ c. search needs) (λ c. search needs) (λ c. search needs) (λ c. search needs)
+    (λ c. search needs) loop-again (λ c. search needs) returns)

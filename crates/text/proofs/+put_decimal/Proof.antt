@@ -1,21 +1,14 @@
 -- `text::put_decimal` meets its contract: its measure is the number. Assumes nothing.
-use Prim.Native.Nat.{ℕ, _/_, _<_}
-use mathlib.Core.Path.{sym, ap, _∙_}
-use mathlib.Core.List.{[], _∷_, _++_}
-use native.Mathlib.Omega.{arith}
-use borrow.Author.Needs.{needs}
-use borrow.Fn.Kinds.{In}
-use borrow.Fn.PlainCycle.{Measures, is, falls, and}
+use Rattle.rules.proofs.Kit.{ℕ, _/_, _<_, sym, ap, _∙_, [], _∷_, _++_, arith, needs}
+use borrow.{Fn.Kinds.In, Fn.PlainCycle.Measures, Fn.PlainCycle.is, Fn.PlainCycle.falls, Fn.PlainCycle.and}
 use Rattle.rules.specs.Text.{decimal}
 use Rattle.splice.proofs.Pieces.{written-then, written, promised-as}
-use Rattle.text.proofs.Digits.{decimal-one, decimal-more, one-length, more-length}
+use Rattle.text.proofs.{Digits.decimal-one, Digits.decimal-more, Digits.one-length, Digits.more-length, +put_decimal.statement, +put_decimal.Tie.close}
 use Rattle.text.proofs.put_decimal.Reads as put-decimal
 use Rattle.text.proofs.put_decimal.Kinds as put-decimal-kinds
 use Rattle.text.proofs.+put_decimal.Lts-put_decimal as lts
 use Rattle.text.proofs.put_byte.Reads as put-byte-reads
 use Rattle.text.proofs.digit.Reads as digit-reads
-use Rattle.text.proofs.+put_decimal.{statement}
-use Rattle.text.proofs.+put_decimal.Tie.{close}
 
 abbrev μ : Measures 1 put-decimal-kinds.ps ℕ
 μ κs a = a .1 .1 .0

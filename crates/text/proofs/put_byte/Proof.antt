@@ -1,7 +1,5 @@
 -- `text::put_byte` meets its contract. Assumes nothing.
-use mathlib.Core.List.{[], _∷_}
-use native.Mathlib.Omega.{arith}
-use borrow.Author.Needs.{needs}
+use Rattle.rules.proofs.Kit.{[], _∷_, arith, needs}
 use Rattle.endian.proofs.Stored.{stored-patch}
 use Rattle.splice.proofs.Pieces.{written-one, promised}
 use Rattle.text.proofs.put_byte.Statement.{statement}

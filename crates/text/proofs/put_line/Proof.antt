@@ -1,6 +1,5 @@
 -- `text::put_line` meets its contract. Assumes nothing.
-use native.Mathlib.Omega.{arith}
-use borrow.Author.Needs.{needs}
+use Rattle.rules.proofs.Kit.{arith, needs}
 use Rattle.rules.specs.Text.{line}
 use Rattle.splice.proofs.Pieces.{written-then, written, promised}
 use Rattle.text.proofs.put_line.Statement.{statement}

@@ -1,6 +1,5 @@
 -- `text::put_text` meets its contract. Assumes nothing.
-use native.Mathlib.Omega.{arith}
-use borrow.Author.Needs.{needs}
+use Rattle.rules.proofs.Kit.{arith, needs}
 use Rattle.splice.proofs.Pieces.{written-one, promised}
 use Rattle.text.proofs.put_text.Statement.{statement}
 use Rattle.text.proofs.put_text.Tie as tie

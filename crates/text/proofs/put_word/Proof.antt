@@ -1,13 +1,8 @@
 -- `text::put_word` meets its contract. Assumes nothing.
-use Prim.Native.Nat.{_≤_}
-use native.Mathlib.Omega.{arith}
-use borrow.Author.Needs.{needs}
-use lib.ListN.{length}
+use Rattle.rules.proofs.Kit.{_≤_, arith, needs, length}
 use Rattle.rules.specs.Text.{decimal}
 use Rattle.splice.proofs.Pieces.{written-then, written, promised-as}
-use Rattle.text.proofs.Digits.{decimal-twenty}
-use Rattle.text.proofs.Words.{spaced-one}
-use Rattle.text.proofs.put_word.Statement.{statement}
+use Rattle.text.proofs.{Digits.decimal-twenty, Words.spaced-one, put_word.Statement.statement}
 use Rattle.text.proofs.put_word.Tie as tie
 
 few : (c : tie.Start) → length (decimal (c .args .n)) ≤ 20
@@ -23,7 +18,12 @@ returns c =
     let p = c .before .before .before .before .before .before in
     let w = written-then (written _ _ _ (p .put-text .ensures .0)) (written _ _ _ (c .before .before .put-decimal .ensures)) in (
       promised-as w (spaced-one _),
-      omega (arith, written _ _ _ (p .put-text .ensures .0) .ends, written _ _ _ (c .before .before .put-decimal .ensures) .ends, few (p .before .before .before .before)),
+      omega (
+        arith,
+        written _ _ _ (p .put-text .ensures .0) .ends,
+        written _ _ _ (c .before .before .put-decimal .ensures) .ends,
+        few (p .before .before .before .before),
+      ),
     )
 
 pub put-word-spec : {M : Type 1} → statement M

@@ -1,16 +1,8 @@
 -- `text::put_words` meets its contract. The loop's invariant: the first i numbers are written. Assumes nothing.
-use Prim.Native.Nat.{ℕ, _≤_, _-_, _+_, _*_}
-use mathlib.Core.Path.{_≡_, ap, _∙_}
-use mathlib.Core.List.{map}
-use native.Mathlib.Omega.{arith}
-use borrow.Author.Needs.{needs}
-use denote.Ref.{now}
-use lib.ListN.{length, take}
-use lib.Seq.{take-length}
+use Rattle.rules.proofs.Kit.{ℕ, _≤_, _-_, _+_, _*_, _≡_, ap, _∙_, map, arith, needs, now, length, take, take-length}
 use Rattle.rules.specs.Text.{decimal, spaced}
 use Rattle.splice.proofs.Pieces.{written-none, written-then, written-as, written, promised-as, Written}
-use Rattle.text.proofs.Words.{spaced-none, words-more}
-use Rattle.text.proofs.put_words.Statement.{statement}
+use Rattle.text.proofs.{Words.spaced-none, Words.words-more, put_words.Statement.statement}
 use Rattle.text.proofs.put_words.Tie as tie
 
 abbrev Inv-loop : tie.InvT-loop
@@ -35,7 +27,8 @@ loop-again c =
       search needs,
       search needs,
       search needs,
-      written-as (written-then (l .before .loop .inv .3) (written _ _ _ (c .before .before .put-word .ensures .0))) (words-more ns (l .before .loop .i) (l .loop-test .taken)),
+      written-as (written-then (l .before .loop .inv .3) (written _ _ _ (c .before .before .put-word .ensures .0)))
+          (words-more ns (l .before .loop .i) (l .loop-test .taken)),
     )
 
 returns : tie.Need-returns Inv-loop μ-loop
@@ -46,17 +39,5 @@ returns c =
     (promised-as (l .inv .3) (ap (λ (k : ℕ). spaced (map decimal (take k ns))) e ∙ rw (take-length ns)), omega arith)
 
 pub put-words-spec : {M : Type 1} → statement M
-put-words-spec =
-    tie.close
-    (tie.spec
-    Inv-loop
-    μ-loop
-    loop-holds
-    (λ c. search needs)
-    (λ c. search needs)
-    (λ c κs. search needs)
-    (λ c. search needs)
-    (λ c. search needs)
-    loop-again
-    (λ c. search needs)
-    returns)
+put-words-spec = tie.close (tie.spec Inv-loop μ-loop loop-holds (λ c. search needs) (λ c. search needs) (λ c κs. search needs) (λ c. search needs)
+    (λ c. search needs) loop-again (λ c. search needs) returns)

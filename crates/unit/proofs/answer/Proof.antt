@@ -1,11 +1,7 @@
 -- `unit::answer` meets its contract. Assumes nothing.
-use Prim.Native.Nat.{_≤_}
-use native.Mathlib.Omega.{arith}
-use denote.Ref.{now}
-use lib.ListN.{length}
+use Rattle.rules.proofs.Kit.{_≤_, arith, now, length, needs}
 use Rattle.rules.specs.Printed.{unitText}
-use Rattle.printed.proofs.Answers.{printed-counts, printed-whole}
-use borrow.Author.Needs.{needs}
+use Rattle.program_report.proofs.Answers.{printed-counts, printed-whole}
 use Rattle.unit.proofs.answer.Statement.{statement}
 use Rattle.unit.proofs.answer.Tie as tie
 

@@ -1,9 +1,7 @@
 -- `view::decide_at` meets its contract. Assumes nothing.
-use mathlib.Core.Path.{sym, ap, _∙_}
-use borrow.Author.Needs.{needs}
-use Rattle.rules.specs.Refused.{answered}
-use Rattle.rules.specs.View.{viewOf}
-use Rattle.outset.proofs.Refusals.{unless-passed, unless-refused, bank-room}
+use Rattle.rules.proofs.Kit.{sym, ap, _∙_, needs}
+use Rattle.rules.proofs.Faults.{unless-passed, unless-refused, bank-room}
+use Rattle.rules.specs.{Refused.answered, Refused.refused, View.viewOf}
 use Rattle.view.proofs.decide_at.Statement.{statement}
 use Rattle.view.proofs.decide_at.Tie as tie
 
@@ -11,7 +9,7 @@ returns : tie.Need-returns
 unfolding viewOf
 returns c =
     let o = c .before in
-    sym (unless-refused _ _ (o .outcome .given .1) (o .before .before .bank-outcome .ensures))
+    sym (unless-refused _ refused _ (o .outcome .given .1) (o .before .before .bank-outcome .ensures))
 
 decide-in-requires : tie.Need-decide-in-requires
 decide-in-requires c κs = bank-room _ (c .enum-told .given .1) (c .before .before .bank-outcome .ensures)
@@ -20,7 +18,7 @@ returns-2 : tie.Need-returns-2
 unfolding viewOf
 returns-2 c =
     let o = c .before in
-    ap answered (c .decide-in .ensures) ∙ sym (unless-passed _ _ (o .enum-told .given .1) (o .before .before .bank-outcome .ensures))
+    ap answered (c .decide-in .ensures) ∙ sym (unless-passed _ refused _ (o .enum-told .given .1) (o .before .before .bank-outcome .ensures))
 
 pub decide-at-spec : {M : Type 1} → statement M
 decide-at-spec =

@@ -1,12 +1,8 @@
 -- `ask::question::about` meets its contract. The loop's invariant: what is left says the rest of the question. Assumes nothing.
-use Prim.Native.Nat.{_≤_, _-_}
-use mathlib.Core.Path.{_≡_, _∙_, sym}
-use native.Mathlib.Omega.{arith}
-use lib.ListN.{length}
-use borrow.Author.Needs.{needs}
+use Rattle.rules.proofs.Kit.{_≤_, _-_, _≡_, _∙_, sym, arith, length, needs}
 use Rattle.ask.specs.Question.{aboutOf}
-use Rattle.ask.proofs.Questions.{left, left-all, left-none, left-end, left-stops, left-next, left-over}
-use Rattle.ask.proofs.question.about.Statement.{statement}
+use Rattle.ask.proofs.{Questions.left, Questions.left-all, Questions.left-none, Questions.left-end, Questions.left-stops, Questions.left-next}
+use Rattle.ask.proofs.{Questions.left-over, question.about.Statement.statement}
 use Rattle.ask.proofs.question.about.Tie as tie
 
 abbrev Inv-loop : tie.InvT-loop
@@ -21,17 +17,17 @@ returns c = sym (left-none _ (c .if1 .taken))
 loop-holds : tie.Need-loop-holds Inv-loop μ-loop
 loop-holds c = (omega arith, omega arith, left-all _ (omega arith))
 
-shared-slice-read-digit : tie.Need-shared-slice-read-digit Inv-loop μ-loop
-shared-slice-read-digit c = omega arith
+shared-slice-read-digit-value : tie.Need-shared-slice-read-digit-value Inv-loop μ-loop
+shared-slice-read-digit-value c = omega arith
 
-digit-requires : tie.Need-digit-requires Inv-loop μ-loop
-digit-requires c κs = search needs
+digit-value-requires : tie.Need-digit-value-requires Inv-loop μ-loop
+digit-value-requires c κs = search needs
 
 returns-2 : tie.Need-returns-2 Inv-loop μ-loop
 returns-2 c =
     let d = c .before in
     let l = d .before .before .before .loop in
-    sym (l .inv .2 ∙ left-stops _ (l .i) (l .id) _ (omega arith) (d .digit .ensures) (c .if2 .taken))
+    sym (l .inv .2 ∙ left-stops _ (l .i) (l .id) _ (omega arith) (d .digit-value .ensures) (c .if2 .taken))
 
 mul-id : tie.Need-mul-id Inv-loop μ-loop
 mul-id c = search needs
@@ -43,7 +39,7 @@ returns-3 : tie.Need-returns-3 Inv-loop μ-loop
 returns-3 c =
     let d = c .before .before in
     let l = d .before .before .before .loop in
-    sym (l .inv .2 ∙ left-over _ (l .i) (l .id) _ (omega arith) (d .digit .ensures) (omega arith) (c .if3 .taken))
+    sym (l .inv .2 ∙ left-over _ (l .i) (l .id) _ (omega arith) (d .digit-value .ensures) (omega arith) (c .if3 .taken))
 
 add-i : tie.Need-add-i Inv-loop μ-loop
 add-i c = search needs
@@ -55,7 +51,7 @@ loop-again : tie.Need-loop-again Inv-loop μ-loop
 loop-again c =
     let d = c .before .before in
     let l = d .before .before .before .loop in
-    (omega arith, omega arith, l .inv .2 ∙ left-next _ (l .i) (l .id) _ (omega arith) (d .digit .ensures) (omega arith))
+    (omega arith, omega arith, l .inv .2 ∙ left-next _ (l .i) (l .id) _ (omega arith) (d .digit-value .ensures) (omega arith))
 
 cast-t12 : tie.Need-cast-t12 Inv-loop μ-loop
 cast-t12 c = search needs
@@ -66,21 +62,5 @@ returns-4 c =
     sym (l .inv .2 ∙ left-end _ (l .i) (l .id) (omega arith) (l .inv .1))
 
 pub about-spec : {M : Type 1} → statement M
-about-spec =
-    tie.close
-    (tie.spec
-    Inv-loop
-    μ-loop
-    returns
-    loop-holds
-    shared-slice-read-digit
-    digit-requires
-    returns-2
-    mul-id
-    add-id
-    returns-3
-    add-i
-    loop-less
-    loop-again
-    cast-t12
-    returns-4)
+about-spec = tie.close (tie.spec Inv-loop μ-loop returns loop-holds shared-slice-read-digit-value digit-value-requires returns-2 mul-id add-id returns-3 add-i
+    loop-less loop-again cast-t12 returns-4)

@@ -1,9 +1,7 @@
 -- `ask::question::answer` meets its contract. Assumes nothing.
-use mathlib.Core.Path.{refl}
-use native.Mathlib.Omega.{arith}
+use Rattle.rules.proofs.Kit.{refl, arith, needs}
 use Rattle.ask.specs.Question.{answerText}
-use Rattle.printed.proofs.Answers.{printed-counts, printed-whole}
-use borrow.Author.Needs.{needs}
+use Rattle.program_report.proofs.Answers.{printed-counts, printed-whole}
 use Rattle.ask.proofs.question.answer.Statement.{statement}
 use Rattle.ask.proofs.question.answer.Tie as tie
 
@@ -32,18 +30,5 @@ unfolding answerText
 returns-3 c = ((omega arith, refl), rw (c .enum-told .given .1))
 
 pub answer-spec : {M : Type 1} → statement M
-answer-spec =
-    tie.close
-    (tie.spec
-    (λ c. search needs)
-    (λ c κs. search needs)
-    (λ c κs. search needs)
-    (λ c. search needs)
-    (λ c κs. search needs)
-    (λ c κs. search needs)
-    (λ c. search needs)
-    (λ c. search needs)
-    returns
-    (λ c. search needs)
-    returns-2
-    returns-3)
+answer-spec = tie.close (tie.spec (λ c. search needs) (λ c κs. search needs) (λ c κs. search needs) (λ c. search needs) (λ c κs. search needs)
+    (λ c κs. search needs) (λ c. search needs) (λ c. search needs) returns (λ c. search needs) returns-2 returns-3)

@@ -1,6 +1,6 @@
 -- `ask::question::in_words` meets its contract. Assumes nothing.
+use Rattle.rules.proofs.Kit.{needs}
 use Rattle.ask.specs.Question.{inWords}
-use borrow.Author.Needs.{needs}
 use Rattle.ask.proofs.question.in_words.Statement.{statement}
 use Rattle.ask.proofs.question.in_words.Tie as tie
 

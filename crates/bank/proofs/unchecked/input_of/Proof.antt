@@ -1,10 +1,6 @@
 -- `bank::unchecked::input_of` meets its contract: each field is what its reading ensures. Assumes nothing.
-use mathlib.Core.Path.{ap, _∙_}
-use mir.Syntax.{w64}
-use mir.Val.{toZ}
-use mir.ValLaws.{toZ-ofZ}
+use Rattle.rules.proofs.Kit.{ap, _∙_, w64, toZ, toZ-ofZ, needs}
 use Rattle.rules.specs.Records.{inputOf}
-use borrow.Author.Needs.{needs}
 use Rattle.bank.proofs.unchecked.input_of.Statement.{statement}
 use Rattle.bank.proofs.unchecked.input_of.Tie as tie
 
@@ -29,7 +25,8 @@ returns c =
       «requested_model_id» = c12 .u32-at .ensures i;
       «input_tokens» = c11 .u32-at2 .ensures i;
       «output_tokens» = c10 .u32-at3 .ensures i;
-      «business_value_microunits» = (toZ-ofZ w64 (c8 .signed .result) (record { sfits = c8 .signed .ok }) ∙ c8 .signed .ensures ∙ ap (toZ w64) (c9 .u64-at2 .ensures)) i;
+      «business_value_microunits» =
+          (toZ-ofZ w64 (c8 .signed .result) (record { sfits = c8 .signed .ok }) ∙ c8 .signed .ensures ∙ ap (toZ w64) (c9 .u64-at2 .ensures)) i;
       «budget_limit_microunits» = c7 .u64-at3 .ensures i;
       «risk_bps» = c6 .u16-at .ensures i;
       «confidence_bps» = c5 .u16-at2 .ensures i;
@@ -41,21 +38,6 @@ returns c =
     }
 
 pub input-of-spec : {M : Type 1} → statement M
-input-of-spec =
-    tie.close
-    (tie.spec
-    (λ c κs. search needs)
-    (λ c κs. search needs)
-    (λ c κs. search needs)
-    (λ c κs. search needs)
-    (λ c κs. search needs)
-    (λ c κs. search needs)
-    (λ c κs. search needs)
-    (λ c κs. search needs)
-    (λ c κs. search needs)
-    (λ c κs. search needs)
-    (λ c κs. search needs)
-    (λ c κs. search needs)
-    (λ c κs. search needs)
-    (λ c κs. search needs)
-    returns)
+input-of-spec = tie.close (tie.spec (λ c κs. search needs) (λ c κs. search needs) (λ c κs. search needs) (λ c κs. search needs) (λ c κs. search needs)
+    (λ c κs. search needs) (λ c κs. search needs) (λ c κs. search needs) (λ c κs. search needs) (λ c κs. search needs) (λ c κs. search needs)
+    (λ c κs. search needs) (λ c κs. search needs) (λ c κs. search needs) returns)

@@ -1,9 +1,7 @@
 -- `bank::unchecked::model_of` meets its contract: each field is what its reading ensures. Assumes nothing.
-use native.Mathlib.Omega.{arith}
-use denote.Ref.{now}
+use Rattle.rules.proofs.Kit.{arith, now, needs}
 use Rattle.rules.specs.Records.{modelOf}
 use Rattle.endian.proofs.Spelled.{byte-at}
-use borrow.Author.Needs.{needs}
 use Rattle.bank.proofs.unchecked.model_of.Statement.{statement}
 use Rattle.bank.proofs.unchecked.model_of.Tie as tie
 
@@ -33,17 +31,5 @@ returns c =
     }
 
 pub model-of-spec : {M : Type 1} → statement M
-model-of-spec =
-    tie.close
-    (tie.spec
-    (λ c κs. search needs)
-    (λ c κs. search needs)
-    (λ c κs. search needs)
-    (λ c κs. search needs)
-    (λ c. search needs)
-    (λ c κs. search needs)
-    (λ c κs. search needs)
-    (λ c κs. search needs)
-    (λ c κs. search needs)
-    (λ c κs. search needs)
-    returns)
+model-of-spec = tie.close (tie.spec (λ c κs. search needs) (λ c κs. search needs) (λ c κs. search needs) (λ c κs. search needs) (λ c. search needs)
+    (λ c κs. search needs) (λ c κs. search needs) (λ c κs. search needs) (λ c κs. search needs) (λ c κs. search needs) returns)

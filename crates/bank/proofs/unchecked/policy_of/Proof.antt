@@ -1,6 +1,6 @@
 -- `bank::unchecked::policy_of` meets its contract: each field is what its reading ensures. Assumes nothing.
+use Rattle.rules.proofs.Kit.{needs}
 use Rattle.rules.specs.Records.{policyOf}
-use borrow.Author.Needs.{needs}
 use Rattle.bank.proofs.unchecked.policy_of.Statement.{statement}
 use Rattle.bank.proofs.unchecked.policy_of.Tie as tie
 
@@ -22,13 +22,5 @@ returns c =
     }
 
 pub policy-of-spec : {M : Type 1} → statement M
-policy-of-spec =
-    tie.close
-    (tie.spec
-    (λ c κs. search needs)
-    (λ c κs. search needs)
-    (λ c κs. search needs)
-    (λ c κs. search needs)
-    (λ c κs. search needs)
-    (λ c κs. search needs)
-    returns)
+policy-of-spec = tie.close (tie.spec (λ c κs. search needs) (λ c κs. search needs) (λ c κs. search needs) (λ c κs. search needs) (λ c κs. search needs)
+    (λ c κs. search needs) returns)

@@ -1,5 +1,5 @@
 -- `batch::is_refused` meets its contract. Assumes nothing.
-use borrow.Author.Needs.{needs}
+use Rattle.rules.proofs.Kit.{needs}
 use Rattle.batch.specs.Refuse.{refuses}
 use Rattle.batch.proofs.refuse.is_refused.Statement.{statement}
 use Rattle.batch.proofs.refuse.is_refused.Tie as tie

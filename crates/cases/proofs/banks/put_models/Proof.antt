@@ -1,8 +1,5 @@
 -- `cases::banks::put_models` meets its contract. The buffer keeps its length; the measure is how many models are left. Assumes nothing.
-use Prim.Native.Nat.{_≤_, _-_}
-use mathlib.Core.Path.{_≡_}
-use borrow.Author.Needs.{needs}
-use lib.ListN.{length}
+use Rattle.rules.proofs.Kit.{_≤_, _-_, _≡_, needs, length}
 use Rattle.cases.proofs.banks.put_models.Statement.{statement}
 use Rattle.cases.proofs.banks.put_models.Tie as tie
 
@@ -34,15 +31,4 @@ returns : tie.Need-returns Inv-loop μ-loop
 returns c = search needs
 
 pub put-models-spec : {M : Type 1} → statement M
-put-models-spec =
-    tie.close
-    (tie.spec
-    Inv-loop
-    μ-loop
-    loop-holds
-    put-one-requires
-    add-place
-    loop-less
-    loop-again
-    same-length
-    returns)
+put-models-spec = tie.close (tie.spec Inv-loop μ-loop loop-holds put-one-requires add-place loop-less loop-again same-length returns)

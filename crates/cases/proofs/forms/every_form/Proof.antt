@@ -1,6 +1,5 @@
 -- `cases::forms::every_form` meets its contract. The loop's measure is how many groups are left. Assumes nothing.
-use Prim.Native.Nat.{_≤_, _-_}
-use borrow.Author.Needs.{needs}
+use Rattle.rules.proofs.Kit.{_≤_, _-_, needs}
 use Rattle.cases.proofs.forms.every_form.Statement.{statement}
 use Rattle.cases.proofs.forms.every_form.Tie as tie
 
@@ -29,14 +28,4 @@ returns : tie.Need-returns Inv-loop μ-loop
 returns c = search needs
 
 pub every-form-spec : {M : Type 1} → statement M
-every-form-spec =
-    tie.close
-    (tie.spec
-    Inv-loop
-    μ-loop
-    loop-holds
-    with-group-requires
-    add-group
-    loop-less
-    loop-again
-    returns)
+every-form-spec = tie.close (tie.spec Inv-loop μ-loop loop-holds with-group-requires add-group loop-less loop-again returns)

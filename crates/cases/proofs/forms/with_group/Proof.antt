@@ -1,6 +1,5 @@
 -- `cases::forms::with_group` meets its contract. The loop's measure is how many numbers are left. Assumes nothing.
-use Prim.Native.Nat.{_≤_, _-_}
-use borrow.Author.Needs.{needs}
+use Rattle.rules.proofs.Kit.{_≤_, _-_, needs}
 use Rattle.cases.proofs.forms.with_group.Statement.{statement}
 use Rattle.cases.proofs.forms.with_group.Tie as tie
 
@@ -38,17 +37,5 @@ returns : tie.Need-returns Inv-loop μ-loop
 returns c = search needs
 
 pub with-group-spec : {M : Type 1} → statement M
-with-group-spec =
-    tie.close
-    (tie.spec
-    Inv-loop
-    μ-loop
-    size-of-requires
-    wrapping-add-u64-requires
-    loop-holds
-    case-of-requires
-    noted-requires
-    add-i
-    loop-less
-    loop-again
-    returns)
+with-group-spec = tie.close (tie.spec Inv-loop μ-loop size-of-requires wrapping-add-u64-requires loop-holds case-of-requires noted-requires add-i loop-less
+    loop-again returns)

@@ -1,6 +1,5 @@
 -- `cases::groups::every` meets its contract. The loop's measure is how many groups are left. Assumes nothing.
-use Prim.Native.Nat.{_≤_, _-_}
-use borrow.Author.Needs.{needs}
+use Rattle.rules.proofs.Kit.{_≤_, _-_, needs}
 use Rattle.cases.proofs.groups.every.Statement.{statement}
 use Rattle.cases.proofs.groups.every.Tie as tie
 
@@ -32,15 +31,4 @@ returns : tie.Need-returns Inv-loop μ-loop
 returns c = search needs
 
 pub every-spec : {M : Type 1} → statement M
-every-spec =
-    tie.close
-    (tie.spec
-    Inv-loop
-    μ-loop
-    nothing-requires
-    loop-holds
-    with-group-requires
-    add-group
-    loop-less
-    loop-again
-    returns)
+every-spec = tie.close (tie.spec Inv-loop μ-loop nothing-requires loop-holds with-group-requires add-group loop-less loop-again returns)

@@ -1,7 +1,5 @@
 -- `cases::marks::begins` meets its contract. The loop's measure is what is left of the buffer. Assumes nothing.
-use Prim.Native.Nat.{_≤_, _-_}
-use borrow.Author.Needs.{needs}
-use lib.ListN.{length}
+use Rattle.rules.proofs.Kit.{_≤_, _-_, needs, length}
 use Rattle.cases.proofs.marks.begins.Statement.{statement}
 use Rattle.cases.proofs.marks.begins.Tie as tie
 
@@ -36,16 +34,4 @@ returns-2 : tie.Need-returns-2 Inv-loop μ-loop
 returns-2 c = search needs
 
 pub begins-spec : {M : Type 1} → statement M
-begins-spec =
-    tie.close
-    (tie.spec
-    Inv-loop
-    μ-loop
-    loop-holds
-    shared-slice-read-if1
-    byte-owed-requires
-    returns
-    add-i
-    loop-less
-    loop-again
-    returns-2)
+begins-spec = tie.close (tie.spec Inv-loop μ-loop loop-holds shared-slice-read-if1 byte-owed-requires returns add-i loop-less loop-again returns-2)

@@ -1,12 +1,8 @@
 -- `catalogue::flag_outcome` meets its contract. The loop's invariant: no record passed has a flag above 1. Assumes nothing.
-use Prim.Native.Nat.{_-_, _≤_}
-use native.Mathlib.Omega.{arith}
-use mathlib.Core.Path.{_≡_, refl, _∙_}
-use Rattle.rules.specs.Records.{listedOf}
-use Rattle.rules.specs.Trust.{flagFaults}
-use Rattle.outset.specs.Refuse.{leading, toldLeading}
-use Rattle.catalogue.proofs.Walks.{rest, flag-here, flag-later, flag-none}
-use Rattle.catalogue.proofs.loading.flag_outcome.Statement.{statement}
+use Rattle.rules.proofs.Kit.{_-_, _≤_, arith, _≡_, refl, _∙_}
+use Rattle.rules.specs.{Refused.firstFault, Refused.toldOutcome, Records.listedOf, Trust.flagFaults}
+use Rattle.catalogue_records.proofs.Walks.{rest}
+use Rattle.catalogue.proofs.{Walks.flag-here, Walks.flag-later, Walks.flag-none, loading.flag_outcome.Statement.statement}
 use Rattle.catalogue.proofs.loading.flag_outcome.Tie as tie
 
 abbrev Inv-loop : tie.InvT-loop
@@ -19,7 +15,7 @@ loop-holds : tie.Need-loop-holds Inv-loop μ-loop
 loop-holds c = (omega arith, refl)
 
 returns : tie.Need-returns Inv-loop μ-loop
-unfolding leading toldLeading
+unfolding firstFault toldOutcome
 returns c =
     let m = c .before .before in
     let l = m .before .before .loop in
@@ -32,21 +28,10 @@ loop-again c =
     (omega arith, l .inv .1 ∙ flag-later _ (l .i) _ (omega arith) (m .model-at .ensures) (c .if1 .left))
 
 returns-2 : tie.Need-returns-2 Inv-loop μ-loop
-unfolding leading toldLeading
+unfolding firstFault toldOutcome
 returns-2 c =
     let l = c .before .loop in
     rw (l .inv .1 ∙ flag-none _ (l .i) (omega arith))
 
 pub flag-outcome-spec : {M : Type 1} → statement M
-flag-outcome-spec =
-    tie.close
-    (tie.spec
-    Inv-loop
-    μ-loop
-    loop-holds
-    (λ c κs. omega arith)
-    returns
-    (λ c. omega arith)
-    (λ c. omega arith)
-    loop-again
-    returns-2)
+flag-outcome-spec = tie.close (tie.spec Inv-loop μ-loop loop-holds (λ c κs. omega arith) returns (λ c. omega arith) (λ c. omega arith) loop-again returns-2)

@@ -1,5 +1,5 @@
 -- `catalogue::ordered_outcome` meets its contract. Assumes nothing.
-use borrow.Author.Needs.{needs}
+use Rattle.rules.proofs.Kit.{needs}
 use Rattle.catalogue.proofs.loading.ordered_outcome.Statement.{statement}
 use Rattle.catalogue.proofs.loading.ordered_outcome.Tie as tie
 

@@ -1,21 +1,14 @@
 -- `catalogue::catalog_outcome` meets its contract: 10, 11, the records, 15. Assumes nothing.
-use mathlib.Core.Path.{_≡_, refl}
-use mathlib.Core.List.{_∷_}
-use borrow.Author.Needs.{needs}
-use Rattle.rules.specs.Validate.{catalogFaults}
-use Rattle.rules.specs.Refused.{Faults, toldRefusal}
-use Rattle.rules.specs.declared.refusal.Refusal.{Refusal}
-use Rattle.rules.specs.declared.refusal.Refusal.the-variants.{EmptyCatalog}
-use Rattle.rules.specs.declared.refusal.Outcome.the-variants.{Refused}
-use Rattle.outset.specs.Refuse.{leading, toldLeading}
-use Rattle.outset.proofs.Refusals.{append-refused, none-told}
-use Rattle.catalogue.proofs.Walks.{empty-yes, empty-no}
-use Rattle.catalogue.proofs.validation.catalog_outcome.Statement.{statement}
+use Rattle.rules.proofs.Kit.{_≡_, refl, _∷_, needs}
+use Rattle.rules.proofs.Faults.{append-refused, none-told}
+use Rattle.rules.specs.{Validate.catalogFaults, Refused.Faults, Refused.toldRefusal, Refused.firstFault, Refused.toldOutcome, declared.refusal.Refusal.Refusal}
+use Rattle.rules.specs.{declared.refusal.Refusal.the-variants.EmptyCatalog, declared.refusal.Outcome.the-variants.Refused}
+use Rattle.catalogue.proofs.{Walks.empty-yes, Walks.empty-no, validation.catalog_outcome.Statement.statement}
 use Rattle.catalogue.proofs.validation.catalog_outcome.Tie as tie
 
 -- a refusal tells the number that stands first
-tells : (r : Refusal) (fs : Faults) → toldLeading (Refused r) ≡ leading (toldRefusal r ∷ fs)
-unfolding leading toldLeading
+tells : (r : Refusal) (fs : Faults) → toldOutcome (Refused r) ≡ firstFault (toldRefusal r ∷ fs)
+unfolding firstFault toldOutcome
 tells r fs = refl
 
 returns : tie.Need-returns
@@ -55,17 +48,5 @@ returns-4 c =
     (c .off-outcome .ensures)
 
 pub catalog-outcome-spec : {M : Type 1} → statement M
-catalog-outcome-spec =
-    tie.close
-    (tie.spec
-    (λ c κs. search needs)
-    (λ c. search needs)
-    returns
-    (λ c. search needs)
-    returns-2
-    (λ c κs. search needs)
-    (λ c. search needs)
-    returns-3
-    (λ c. search needs)
-    (λ c κs. search needs)
-    returns-4)
+catalog-outcome-spec = tie.close (tie.spec (λ c κs. search needs) (λ c. search needs) returns (λ c. search needs) returns-2 (λ c κs. search needs)
+    (λ c. search needs) returns-3 (λ c. search needs) (λ c κs. search needs) returns-4)

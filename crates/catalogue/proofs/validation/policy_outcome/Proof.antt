@@ -1,34 +1,33 @@
 -- `catalogue::policy_outcome` meets its contract. Assumes nothing.
-use Rattle.rules.specs.Validate.{policyFaults}
-use Rattle.rules.proofs.Choices.{below-yes, below-no}
-use Rattle.outset.specs.Refuse.{leading, toldLeading}
+use Rattle.rules.proofs.Kit.{lt-ltb, le-ltb}
+use Rattle.rules.specs.{Refused.firstFault, Refused.toldOutcome, Validate.policyFaults}
 use Rattle.catalogue.proofs.validation.policy_outcome.Statement.{statement}
 use Rattle.catalogue.proofs.validation.policy_outcome.Tie as tie
 
 returns : tie.Need-returns
-unfolding policyFaults leading toldLeading
-returns c = rw (below-yes _ _ _ _ (c .if1 .taken))
+unfolding policyFaults firstFault toldOutcome
+returns c = rw (lt-ltb _ _ (c .if1 .taken))
 
 returns-2 : tie.Need-returns-2
-unfolding policyFaults leading toldLeading
-returns-2 c = rw (below-no _ _ _ _ (c .before .before .if1 .left), below-yes _ _ _ _ (c .if2 .taken))
+unfolding policyFaults firstFault toldOutcome
+returns-2 c = rw (le-ltb _ _ (c .before .before .if1 .left), lt-ltb _ _ (c .if2 .taken))
 
 returns-3 : tie.Need-returns-3
-unfolding policyFaults leading toldLeading
+unfolding policyFaults firstFault toldOutcome
 returns-3 c =
     rw (
-      below-no _ _ _ _ (c .before .before .before .before .if1 .left),
-      below-no _ _ _ _ (c .before .before .if2 .left),
-      below-yes _ _ _ _ (c .if3 .taken),
+      le-ltb _ _ (c .before .before .before .before .if1 .left),
+      le-ltb _ _ (c .before .before .if2 .left),
+      lt-ltb _ _ (c .if3 .taken),
     )
 
 returns-4 : tie.Need-returns-4
-unfolding policyFaults leading toldLeading
+unfolding policyFaults firstFault toldOutcome
 returns-4 c =
     rw (
-      below-no _ _ _ _ (c .before .before .before .before .if1 .left),
-      below-no _ _ _ _ (c .before .before .if2 .left),
-      below-no _ _ _ _ (c .if3 .left),
+      le-ltb _ _ (c .before .before .before .before .if1 .left),
+      le-ltb _ _ (c .before .before .if2 .left),
+      le-ltb _ _ (c .if3 .left),
     )
 
 pub policy-outcome-spec : {M : Type 1} → statement M

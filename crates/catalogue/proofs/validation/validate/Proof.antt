@@ -1,7 +1,7 @@
 -- `catalogue::validate` meets its contract: 1 and 2, then the catalogue. Assumes nothing.
-use borrow.Author.Needs.{needs}
+use Rattle.rules.proofs.Kit.{needs}
+use Rattle.rules.proofs.Faults.{append-refused, none-told}
 use Rattle.rules.specs.Validate.{validateOf}
-use Rattle.outset.proofs.Refusals.{append-refused, leading-told, none-told}
 use Rattle.catalogue.proofs.validation.validate.Statement.{statement}
 use Rattle.catalogue.proofs.validation.validate.Tie as tie
 
@@ -10,21 +10,13 @@ unfolding validateOf
 returns c =
     let o = c .before in
     let e = o .whole .given .1 in
-    leading-told _ _ (append-refused _ _ e (o .before .before .bank-outcome .ensures))
+    append-refused _ _ e (o .before .before .bank-outcome .ensures)
 
 returns-2 : tie.Need-returns-2
 unfolding validateOf
 returns-2 c =
     let o = c .before in
-    rw (none-told _ (o .enum-told .given .1) (o .before .before .bank-outcome .ensures)) (leading-told _ _ (c .catalog-outcome .ensures))
+    rw (none-told _ (o .enum-told .given .1) (o .before .before .bank-outcome .ensures)) (c .catalog-outcome .ensures)
 
 pub validate-spec : {M : Type 1} → statement M
-validate-spec =
-    tie.close
-    (tie.spec
-    (λ c κs. search needs)
-    (λ c. search needs)
-    returns
-    (λ c. search needs)
-    (λ c κs. search needs)
-    returns-2)
+validate-spec = tie.close (tie.spec (λ c κs. search needs) (λ c. search needs) returns (λ c. search needs) (λ c κs. search needs) returns-2)

@@ -1,19 +1,17 @@
 -- `counterfactual::decision_margin` meets its contract. Assumes nothing.
-use borrow.Author.Needs.{needs}
-use mathlib.Core.Path.{refl, sym, _∙_}
-use Rattle.rules.specs.Margin.{decisionMarginOf}
-use Rattle.outset.proofs.Refusals.{bank-room, none-told}
-use Rattle.outset.proofs.Finding.{found-at, without, with-place}
-use Rattle.counterfactual.proofs.Listed.{boundary-passed, boundary-refused, stands-at, answer-made}
-use Rattle.counterfactual.proofs.Margins.{margin-rejected, margin-nowhere, margin-listed, chosen-free}
-use Rattle.counterfactual.proofs.margin.decision_margin.Statement.{statement}
+use Rattle.rules.proofs.Kit.{needs, refl, sym, _∙_}
+use Rattle.rules.specs.{Levers.boundaryRefused, Margin.decisionMarginOf}
+use Rattle.rules.proofs.Faults.{bank-room, none-told, unless-passed, unless-refused}
+use Rattle.call_checks.proofs.Finding.{found-at, without, with-place}
+use Rattle.counterfactual.proofs.{Listed.stands-at, Listed.answer-made, Margins.margin-rejected, Margins.margin-nowhere, Margins.margin-listed}
+use Rattle.counterfactual.proofs.{Margins.chosen-free, margin.decision_margin.Statement.statement}
 use Rattle.counterfactual.proofs.margin.decision_margin.Tie as tie
 
 returns : tie.Need-returns
 unfolding decisionMarginOf
 returns c =
     let o = c .before .before in
-    c .refused .ensures ∙ sym (boundary-refused _ _ (o .outcome .given .1) (o .before .before .bank-outcome .ensures))
+    c .refused .ensures ∙ sym (unless-refused _ boundaryRefused _ (o .outcome .given .1) (o .before .before .bank-outcome .ensures))
 
 opened-requires : tie.Need-opened-requires
 opened-requires c κs = bank-room _ (c .enum-told .given .1) (c .before .before .bank-outcome .ensures)
@@ -24,7 +22,7 @@ returns-2 c =
     let j = c .before .before in
     let o = j .before .before .before in
     c .refused2 .ensures
-    ∙ sym (boundary-passed _ _ (o .enum-told .given .1) (o .before .before .bank-outcome .ensures)
+    ∙ sym (unless-passed _ boundaryRefused _ (o .enum-told .given .1) (o .before .before .bank-outcome .ensures)
     ∙ margin-rejected _ _ _ (j .before .before .opened .ensures .0) (sym (j .is-rejected .ensures) ∙ c .before .if1 .taken))
 
 first-listed-requires : tie.Need-first-listed-requires
@@ -39,7 +37,7 @@ returns-3 c =
     let j = f .before .before in
     let o = j .before .before .before in
     c .refused3 .ensures
-    ∙ sym (boundary-passed _ _ (o .enum-told .given .1) (o .before .before .bank-outcome .ensures)
+    ∙ sym (unless-passed _ boundaryRefused _ (o .enum-told .given .1) (o .before .before .bank-outcome .ensures)
     ∙ margin-nowhere _ _ _ (j .before .before .opened .ensures .0)
     (sym (j .is-rejected .ensures) ∙ f .before .if1 .left)
     (without (f .first-listed .result) _ (c .before .match2 .keys2) (f .first-listed .ensures)))
@@ -69,30 +67,13 @@ returns-4 c =
     let j = f .before .before in
     let o = j .before .before .before in
     answer-made _ _ _ refl (c .before .margin-levers .ensures) (c .answered .ensures)
-    ∙ sym (boundary-passed _ _ (o .enum-told .given .1) (o .before .before .bank-outcome .ensures)
+    ∙ sym (unless-passed _ boundaryRefused _ (o .enum-told .given .1) (o .before .before .bank-outcome .ensures)
     ∙ margin-listed _ _ _ (j .before .before .opened .ensures .0) _ _
     (sym (j .is-rejected .ensures) ∙ f .before .if1 .left)
     (a .asked-at .ensures)
     (with-place (k .found .given .1) (f .first-listed .ensures)))
 
 pub decision-margin-spec : {M : Type 1} → statement M
-decision-margin-spec =
-    tie.close
-    (tie.spec
-    (λ c κs. search needs)
-    (λ c. search needs)
-    (λ c κs. search needs)
-    returns
-    (λ c. search needs)
-    opened-requires
-    (λ c κs. search needs)
-    (λ c κs. search needs)
-    returns-2
-    first-listed-requires
-    (λ c. search needs)
-    (λ c κs. search needs)
-    returns-3
-    asked-at-requires
-    margin-levers-requires
-    (λ c κs. search needs)
-    returns-4)
+decision-margin-spec = tie.close (tie.spec (λ c κs. search needs) (λ c. search needs) (λ c κs. search needs) returns (λ c. search needs) opened-requires
+    (λ c κs. search needs) (λ c κs. search needs) returns-2 first-listed-requires (λ c. search needs) (λ c κs. search needs) returns-3 asked-at-requires
+    margin-levers-requires (λ c κs. search needs) returns-4)

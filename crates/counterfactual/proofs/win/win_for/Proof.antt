@@ -1,13 +1,11 @@
 -- `counterfactual::win_for` meets its contract. Assumes nothing.
-use borrow.Author.Needs.{needs}
-use mathlib.Core.Path.{sym, ap, _∙_}
+use Rattle.rules.proofs.Kit.{needs, sym, ap, _∙_}
 use Rattle.rules.specs.Levers.{selects}
 use Rattle.rules.proofs.Faults.{few-records}
-use Rattle.outset.proofs.Finding.{found-at}
-use Rattle.others.proofs.Opening.{open-free}
-use Rattle.counterfactual.proofs.Listed.{stands-at, empty-room, answer-made}
-use Rattle.counterfactual.proofs.Wins.{win-stopped, win-selected, win-sought, win-listed, sought-at}
-use Rattle.counterfactual.proofs.win.win_for.Statement.{statement}
+use Rattle.call_checks.proofs.Finding.{found-at}
+use Rattle.kernel_decide.proofs.Stops.{open-free}
+use Rattle.counterfactual.proofs.{Listed.stands-at, Listed.empty-room, Listed.answer-made, Wins.win-stopped, Wins.win-selected, Wins.win-sought}
+use Rattle.counterfactual.proofs.{Wins.win-listed, Wins.sought-at, win.win_for.Statement.statement}
 use Rattle.counterfactual.proofs.win.win_for.Tie as tie
 
 opened-requires : tie.Need-opened-requires
@@ -61,21 +59,6 @@ returns-3 c =
     ∙ win-sought _ _ (s .stopped-by .ensures) (t .enum-told2 .given .1) (ap (selects _) (sym d) ∙ sym (w .selected .ensures) ∙ k .before .if1 .left))
 
 pub win-for-spec : {M : Type 1} → statement M
-win-for-spec =
-    tie.close
-    (tie.spec
-    opened-requires
-    (λ c κs. search needs)
-    (λ c. search needs)
-    (λ c κs. search needs)
-    (λ c κs. search needs)
-    returns
-    (λ c. search needs)
-    (λ c κs. search needs)
-    (λ c κs. search needs)
-    (λ c κs. search needs)
-    returns-2
-    asked-at-requires
-    win-search-requires
-    (λ c κs. search needs)
-    returns-3)
+win-for-spec = tie.close (tie.spec opened-requires (λ c κs. search needs) (λ c. search needs) (λ c κs. search needs) (λ c κs. search needs) returns
+    (λ c. search needs) (λ c κs. search needs) (λ c κs. search needs) (λ c κs. search needs) returns-2 asked-at-requires win-search-requires
+    (λ c κs. search needs) returns-3)

@@ -1,18 +1,15 @@
 -- `counterfactual::win_search` meets its contract. Assumes nothing.
-use borrow.Author.Needs.{needs}
-use native.Mathlib.Omega.{arith}
-use mathlib.Core.Path.{sym, ap, _∙_}
+use Rattle.rules.proofs.Kit.{needs, arith, sym, ap, _∙_}
 use Rattle.rules.specs.Choice.{equal}
-use Rattle.searches.specs.Lever.{widest}
-use Rattle.searches.specs.Asked.{questionOf}
-use Rattle.searches.proofs.Passes.{wins-so}
-use Rattle.counterfactual.specs.Levers.{roomOf}
-use Rattle.counterfactual.proofs.Wins.{search-on, search-off, off-found, off-lost}
-use Rattle.counterfactual.proofs.win.win_search.Statement.{statement}
+use Rattle.counterfactual_lever.specs.Lever.{widest}
+use Rattle.counterfactual_search.specs.Asked.{questionIn}
+use Rattle.counterfactual_search.proofs.Passes.{wins-so}
+use Rattle.counterfactual_answer.specs.Levers.{roomOf}
+use Rattle.counterfactual.proofs.{Wins.search-on, Wins.search-off, Wins.off-found, Wins.off-lost, win.win_search.Statement.statement}
 use Rattle.counterfactual.proofs.win.win_search.Tie as tie
 
 returns : tie.Need-returns
-unfolding questionOf
+unfolding questionIn
 returns c = c .win-levers .ensures ∙ ap roomOf (sym (search-on _ (c .before .if1 .taken)))
 
 wins-at-requires : tie.Need-wins-at-requires
@@ -20,7 +17,7 @@ unfolding widest equal
 wins-at-requires c κs = omega arith
 
 returns-2 : tie.Need-returns-2
-unfolding questionOf
+unfolding questionIn
 returns-2 c =
     let n = c .before .before in
     let w = n .before .before in
@@ -29,7 +26,7 @@ returns-2 c =
     ∙ ap roomOf (sym (search-off _ _ (w .before .if1 .left) (sym e ∙ n .before .if2 .taken)))
 
 returns-3 : tie.Need-returns-3
-unfolding questionOf
+unfolding questionIn
 returns-3 c =
     let w = c .before .before in
     let e = wins-so _ _ (w .before .before .before .before .before .pre) 5 1 (w .wins-at .ensures) in
@@ -37,15 +34,5 @@ returns-3 c =
     ∙ ap roomOf (sym (search-off _ _ (w .before .if1 .left) (sym e ∙ c .before .if2 .left)))
 
 pub win-search-spec : {M : Type 1} → statement M
-win-search-spec =
-    tie.close
-    (tie.spec
-    (λ c κs. search needs)
-    returns
-    wins-at-requires
-    (λ c κs. search needs)
-    (λ c κs. search needs)
-    (λ c κs. search needs)
-    returns-2
-    (λ c κs. search needs)
-    returns-3)
+win-search-spec = tie.close (tie.spec (λ c κs. search needs) returns wins-at-requires (λ c κs. search needs) (λ c κs. search needs) (λ c κs. search needs)
+    returns-2 (λ c κs. search needs) returns-3)

@@ -1,11 +1,7 @@
 -- `explain::next_eligible` meets its contract. The loop's invariant: no entry passed is eligible. Assumes nothing.
-use Prim.Native.Nat.{_/_, _-_}
-use native.Mathlib.Omega.{arith}
-use mathlib.Core.Path.{_≡_, refl, sym, _∙_}
-use lib.ListN.{length}
+use Rattle.rules.proofs.Kit.{_/_, _-_, arith, _≡_, refl, sym, _∙_, length}
 use Rattle.rules.specs.Explain.{nextEligibleOf}
-use Rattle.explain.proofs.Walk.{verdict-byte, next-here, next-later, next-none}
-use Rattle.explain.proofs.calls.next_eligible.Statement.{statement}
+use Rattle.explain.proofs.{Walk.verdict-byte, Walk.next-here, Walk.next-later, Walk.next-none, calls.next_eligible.Statement.statement}
 use Rattle.explain.proofs.calls.next_eligible.Tie as tie
 
 abbrev Inv-loop : tie.InvT-loop
@@ -32,17 +28,5 @@ returns-2 c =
     sym (l .inv ∙ next-none _ (l .place) (c .loop-test .left))
 
 pub next-eligible-spec : {M : Type 1} → statement M
-next-eligible-spec =
-    tie.close
-    (tie.spec
-    Inv-loop
-    μ-loop
-    (λ c. refl)
-    (λ c. omega arith)
-    (λ c. omega arith)
-    (λ c. omega arith)
-    returns
-    (λ c. omega arith)
-    (λ c. omega arith)
-    loop-again
-    returns-2)
+next-eligible-spec = tie.close (tie.spec Inv-loop μ-loop (λ c. refl) (λ c. omega arith) (λ c. omega arith) (λ c. omega arith) returns (λ c. omega arith)
+    (λ c. omega arith) loop-again returns-2)

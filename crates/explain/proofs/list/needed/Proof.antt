@@ -1,10 +1,6 @@
 -- `explain::needed` meets its contract. Assumes nothing.
-use mathlib.Core.Path.{sym, ap, _∙_}
-use lib.ListN.{length}
-use borrow.Author.Needs.{needs}
-use Rattle.explain.proofs.Entries.{length-bank}
-use Rattle.explain.proofs.Stopped.{stopped-explanation, open-explanation}
-use Rattle.explain.proofs.list.needed.Statement.{statement}
+use Rattle.rules.proofs.Kit.{sym, ap, _∙_, length, needs}
+use Rattle.explain.proofs.{Entries.length-bank, Stopped.stopped-explanation, Stopped.open-explanation, list.needed.Statement.statement}
 use Rattle.explain.proofs.list.needed.Tie as tie
 
 returns : tie.Need-returns
@@ -16,12 +12,4 @@ returns-2 c =
     sym (ap length (open-explanation _ _ (c .before .before .stopped-by .ensures) _ (c .enum-told2 .given .1)) ∙ length-bank _ _ _)
 
 pub needed-spec : {M : Type 1} → statement M
-needed-spec =
-    tie.close
-    (tie.spec
-    (λ c κs. search needs)
-    (λ c. search needs)
-    returns
-    (λ c. search needs)
-    (λ c. search needs)
-    returns-2)
+needed-spec = tie.close (tie.spec (λ c κs. search needs) (λ c. search needs) returns (λ c. search needs) (λ c. search needs) returns-2)

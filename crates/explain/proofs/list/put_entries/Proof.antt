@@ -1,16 +1,11 @@
 -- `explain::put_entries` meets its contract. The loop's invariant: the entries of the first i records stand at the start of the list.
 -- Assumes nothing.
-use Prim.Native.Nat.{_/_, _-_, _≤_}
-use native.Mathlib.Omega.{arith}
-use mathlib.Core.Path.{_≡_, refl, ap, _∙_}
-use lib.ListN.{length}
-use denote.Ref.{now}
-use borrow.Author.Needs.{needs}
+use Rattle.rules.proofs.Kit.{_/_, _-_, _≤_, arith, _≡_, refl, ap, _∙_, length, now, needs}
 use Rattle.rules.specs.Records.{listedOf}
 use Rattle.splice.proofs.Pieces.{written-length}
-use Rattle.explain.proofs.Verdicts.{records-scanned}
-use Rattle.explain.proofs.Entries.{Told, told-none, told-more, told-all, length-entry}
-use Rattle.explain.proofs.list.put_entries.Statement.{statement}
+use Rattle.explain_entries.proofs.Verdicts.{records-scanned}
+use Rattle.explain.proofs.{Entries.Told, Entries.told-none, Entries.told-more, Entries.told-all, Entries.length-entry}
+use Rattle.explain.proofs.{list.put_entries.Statement.statement}
 use Rattle.explain.proofs.list.put_entries.Tie as tie
 
 abbrev Inv-loop : tie.InvT-loop
@@ -41,7 +36,8 @@ loop-again c =
     let m = v .before in
     let l = m .before .before .loop in
     let s = m .before .before .before .before .before .before in
-    let t = told-more _ _ _ _ (l .i) _ _ (m .before .loop-test .taken) (s .pre .1) (l .inv .2) (m .model-at .ensures) (n .numbers-of .ensures ∙ v .candidate-verdict .ensures) (e .entry-bytes .ensures) (w .put-bytes .ensures) in
+    let t = told-more _ _ _ _ (l .i) _ _ (m .before .loop-test .taken) (s .pre .1) (l .inv .2) (m .model-at .ensures)
+    (n .verdict-numbers .ensures ∙ v .candidate-verdict .ensures) (e .entry-bytes .ensures) (w .put-bytes .ensures) in
     (omega (arith, m .before .loop-test .taken), written-length t, t)
 
 returns : tie.Need-returns Inv-loop μ-loop
@@ -53,23 +49,6 @@ returns c =
     ∙ rw (p .pricing-for .ensures .0, records-scanned (a .policy) (a .input) (listedOf (now (a .bank))))
 
 pub put-entries-spec : {M : Type 1} → statement M
-put-entries-spec =
-    tie.close
-    (tie.spec
-    Inv-loop
-    μ-loop
-    (λ c κs. search needs)
-    loop-holds
-    (λ c κs. omega arith)
-    (λ c κs. search needs)
-    (λ c κs. search needs)
-    (λ c. omega arith)
-    (λ c κs. search needs)
-    (λ c. omega arith)
-    (λ c. search needs)
-    put-bytes-requires
-    (λ c. omega arith)
-    (λ c. omega arith)
-    loop-again
-    (λ c. search needs)
-    returns)
+put-entries-spec = tie.close (tie.spec Inv-loop μ-loop (λ c κs. search needs) loop-holds (λ c κs. omega arith) (λ c κs. search needs) (λ c κs. search needs)
+    (λ c. omega arith) (λ c κs. search needs) (λ c. omega arith) (λ c. search needs) put-bytes-requires (λ c. omega arith) (λ c. omega arith) loop-again
+    (λ c. search needs) returns)

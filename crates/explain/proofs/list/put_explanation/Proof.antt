@@ -1,16 +1,7 @@
 -- `explain::put_explanation` meets its contract. Assumes nothing.
-use mathlib.Core.Path.{sym, ap, _∙_}
-use mathlib.Core.List.{List}
-use native.Mathlib.Omega.{arith}
-use Prim.Native.Nat.{ℕ}
-use denote.Ref.{now}
-use lib.ListN.{length}
-use borrow.Author.Needs.{needs}
-use Rattle.rules.specs.Bytes.{filled}
-use Rattle.rules.specs.Records.{listedOf}
-use Rattle.explain.proofs.Entries.{length-bank}
-use Rattle.explain.proofs.Stopped.{stopped-explanation, open-explanation}
-use Rattle.explain.proofs.list.put_explanation.Statement.{statement}
+use Rattle.rules.proofs.Kit.{sym, ap, _∙_, List, arith, ℕ, now, length, needs}
+use Rattle.rules.specs.{Bytes.filled, Records.listedOf}
+use Rattle.explain.proofs.{Entries.length-bank, Stopped.stopped-explanation, Stopped.open-explanation, list.put_explanation.Statement.statement}
 use Rattle.explain.proofs.list.put_explanation.Tie as tie
 
 returns : tie.Need-returns
@@ -39,13 +30,5 @@ returns-2 c =
     ∙ sym (ap (λ (new : List ℕ). filled new (now (a .list))) (open-explanation _ _ (s .stopped-by .ensures) _ (o .enum-told2 .given .1)))
 
 pub put-explanation-spec : {M : Type 1} → statement M
-put-explanation-spec =
-    tie.close
-    (tie.spec
-    (λ c κs. search needs)
-    (λ c. search needs)
-    returns
-    (λ c. search needs)
-    put-entries-requires
-    (λ c. search needs)
+put-explanation-spec = tie.close (tie.spec (λ c κs. search needs) (λ c. search needs) returns (λ c. search needs) put-entries-requires (λ c. search needs)
     returns-2)

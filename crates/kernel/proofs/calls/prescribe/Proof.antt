@@ -1,9 +1,7 @@
 -- `kernel::prescribe` meets its contract. Assumes nothing.
-use mathlib.Core.Path.{sym, ap, _∙_}
-use borrow.Author.Needs.{needs}
-use Rattle.rules.specs.Refused.{answered}
-use Rattle.rules.specs.Decide.{prescribeOf}
-use Rattle.outset.proofs.Refusals.{unless-passed, unless-refused, bank-room}
+use Rattle.rules.proofs.Kit.{sym, ap, _∙_, needs}
+use Rattle.rules.proofs.Faults.{unless-passed, unless-refused, bank-room}
+use Rattle.rules.specs.{Refused.answered, Refused.refused, Decide.prescribeOf}
 use Rattle.kernel.proofs.calls.prescribe.Statement.{statement}
 use Rattle.kernel.proofs.calls.prescribe.Tie as tie
 
@@ -11,7 +9,7 @@ returns : tie.Need-returns
 unfolding prescribeOf
 returns c =
     let o = c .before in
-    sym (unless-refused _ _ (o .outcome .given .1) (o .before .before .bank-outcome .ensures))
+    sym (unless-refused _ refused _ (o .outcome .given .1) (o .before .before .bank-outcome .ensures))
 
 decide-requires : tie.Need-decide-requires
 decide-requires c κs = bank-room _ (c .enum-told .given .1) (c .before .before .bank-outcome .ensures)
@@ -20,7 +18,7 @@ returns-2 : tie.Need-returns-2
 unfolding prescribeOf
 returns-2 c =
     let o = c .before in
-    ap answered (c .decide .ensures) ∙ sym (unless-passed _ _ (o .enum-told .given .1) (o .before .before .bank-outcome .ensures))
+    ap answered (c .decide .ensures) ∙ sym (unless-passed _ refused _ (o .enum-told .given .1) (o .before .before .bank-outcome .ensures))
 
 pub prescribe-spec : {M : Type 1} → statement M
 prescribe-spec =

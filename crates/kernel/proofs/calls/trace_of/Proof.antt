@@ -1,5 +1,5 @@
 -- `kernel::trace_of` meets its contract. Assumes nothing.
-use mathlib.Core.Path.{refl}
+use Rattle.rules.proofs.Kit.{refl}
 use Rattle.rules.specs.Decide.{traceOf}
 use Rattle.kernel.proofs.calls.trace_of.Statement.{statement}
 use Rattle.kernel.proofs.calls.trace_of.Tie as tie

@@ -1,10 +1,8 @@
 -- `kernel::traced` meets its contract. Assumes nothing.
-use native.Mathlib.Omega.{arith}
-use mathlib.Core.Path.{sym, _∙_}
-use borrow.Author.Needs.{needs}
-use Rattle.deciding.proofs.Stops.{open-decision, open-counts, stopped-decision, stopped-counts, traced-told}
-use Rattle.scan.proofs.Scanning.{start-room}
-use Rattle.deciding.proofs.Wholes.{whole-counts, whole-decides}
+use Rattle.rules.proofs.Kit.{arith, sym, _∙_, needs}
+use Rattle.kernel_decide.proofs.{Stops.open-decision, Stops.open-counts, Stops.stopped-decision, Stops.stopped-counts, Stops.traced-told, Wholes.whole-counts}
+use Rattle.kernel_decide.proofs.{Wholes.whole-decides}
+use Rattle.kernel_scan.proofs.Scanning.{start-room}
 use Rattle.kernel.proofs.calls.traced.Statement.{statement}
 use Rattle.kernel.proofs.calls.traced.Tie as tie
 
@@ -14,7 +12,7 @@ returns c =
     let s = r .before .before in
     let told = s .before .before .stopped-by .ensures in
     let by = s .stop .given .1 in
-    traced-told _ _ _ (r .rejected .ensures ∙ sym (stopped-decision _ _ told _ by))
+    traced-told _ _ _ (r .rejection-for .ensures ∙ sym (stopped-decision _ _ told _ by))
     (c .before .no-counts .ensures ∙ sym (stopped-counts _ _ told _ by)) (c .trace-of .ensures)
 
 scan-on-requires : tie.Need-scan-on-requires
@@ -29,25 +27,11 @@ returns-2 c =
     let by = o .enum-told .given .1 in
     let priced = s .before .before .pricing-for .ensures .0 in
     traced-told _ _ _
-    (d .decided .ensures ∙ whole-decides _ _ _ priced (s .before .start .ensures) (s .scan-on .ensures) ∙ sym (open-decision _ _ told _ by))
+    (d .decision-of-scan .ensures ∙ whole-decides _ _ _ priced (s .before .start .ensures) (s .scan-on .ensures) ∙ sym (open-decision _ _ told _ by))
     (whole-counts _ _ _ priced (s .before .start .ensures) (s .scan-on .ensures) ∙ sym (open-counts _ _ told _ by))
     (c .trace-of2 .ensures)
 
 pub traced-spec : {M : Type 1} → statement M
-traced-spec =
-    tie.close
-    (tie.spec
-    (λ c κs. search needs)
-    (λ c. search needs)
-    (λ c κs. search needs)
-    (λ c κs. search needs)
-    (λ c κs. search needs)
-    returns
-    (λ c. search needs)
-    (λ c. search needs)
-    (λ c κs. search needs)
-    (λ c κs. search needs)
-    scan-on-requires
-    (λ c κs. search needs)
-    (λ c κs. search needs)
+traced-spec = tie.close (tie.spec (λ c κs. search needs) (λ c. search needs) (λ c κs. search needs) (λ c κs. search needs) (λ c κs. search needs) returns
+    (λ c. search needs) (λ c. search needs) (λ c κs. search needs) (λ c κs. search needs) scan-on-requires (λ c κs. search needs) (λ c κs. search needs)
     returns-2)

@@ -1,23 +1,16 @@
 -- `kernel::traced_lent` meets its contract. Assumes nothing.
-use Prim.Native.Nat.{ℕ}
-use native.Mathlib.Omega.{arith}
-use denote.Ref.{now}
-use mathlib.Core.Path.{_≡_, sym, ap₂, _∙_}
-use mathlib.Core.List.{List}
-use borrow.Author.Needs.{needs}
-use Rattle.rules.specs.Refused.{answered}
-use Rattle.rules.specs.Records.{listedOf}
-use Rattle.rules.specs.Decide.{tracedOf}
-use Rattle.rules.specs.declared.records.KernelInput.{KernelInput}
-use Rattle.rules.specs.declared.records.PolicySnapshot.{PolicySnapshot}
-use Rattle.deciding.proofs.Stops.{open-decision, open-counts, stopped-decision, stopped-counts, traced-told}
-use Rattle.scan.proofs.Scanning.{start-room}
-use Rattle.deciding.proofs.Wholes.{whole-counts, whole-decides}
+use Rattle.rules.proofs.Kit.{ℕ, arith, now, _≡_, sym, ap₂, _∙_, List, needs}
+use Rattle.rules.specs.{Refused.answered, Records.listedOf, Decide.tracedOf, declared.records.KernelInput.KernelInput}
+use Rattle.rules.specs.{declared.records.PolicySnapshot.PolicySnapshot}
+use Rattle.kernel_decide.proofs.{Stops.open-decision, Stops.open-counts, Stops.stopped-decision, Stops.stopped-counts, Stops.traced-told, Wholes.whole-counts}
+use Rattle.kernel_decide.proofs.{Wholes.whole-decides}
+use Rattle.kernel_scan.proofs.Scanning.{start-room}
 use Rattle.kernel.proofs.lent.traced_lent.Statement.{statement}
 use Rattle.kernel.proofs.lent.traced_lent.Tie as tie
 
 -- the policy and the request are those of the bytes
-from-bytes : (bank : List ℕ) {p s : PolicySnapshot} {q t : KernelInput} → p ≡ s → q ≡ t → answered (tracedOf p q (listedOf bank)) ≡ answered (tracedOf s t (listedOf bank))
+from-bytes : (bank : List ℕ) {p s : PolicySnapshot} {q t : KernelInput} → p ≡ s → q ≡ t
+    → answered (tracedOf p q (listedOf bank)) ≡ answered (tracedOf s t (listedOf bank))
 from-bytes bank e f = ap₂ (λ p q. answered (tracedOf p q (listedOf bank))) e f
 
 returns : tie.Need-returns
@@ -27,7 +20,7 @@ returns c =
     let y = s .before .before in
     let told = y .stopped-by .ensures in
     let by = s .stop .given .1 in
-    traced-told _ _ _ (r .rejected .ensures ∙ sym (stopped-decision _ _ told _ by))
+    traced-told _ _ _ (r .rejection-for .ensures ∙ sym (stopped-decision _ _ told _ by))
     (c .before .no-counts .ensures ∙ sym (stopped-counts _ _ told _ by)) (c .trace-of .ensures)
     ∙ from-bytes (now (y .before .before .before .before .before .before .args .bank)) (y .before .before .policy-of .ensures) (y .before .input-of .ensures)
 
@@ -43,28 +36,13 @@ returns-2 c =
     let by = o .enum-told .given .1 in
     let priced = s .before .before .pricing-for .ensures .0 in
     traced-told _ _ _
-    (d .decided .ensures ∙ whole-decides _ _ _ priced (s .before .start .ensures) (s .scan-on .ensures) ∙ sym (open-decision _ _ told _ by))
+    (d .decision-of-scan .ensures ∙ whole-decides _ _ _ priced (s .before .start .ensures) (s .scan-on .ensures) ∙ sym (open-decision _ _ told _ by))
     (whole-counts _ _ _ priced (s .before .start .ensures) (s .scan-on .ensures) ∙ sym (open-counts _ _ told _ by))
     (c .trace-of2 .ensures)
-    ∙ from-bytes (now (o .before .before .before .before .before .before .before .before .args .bank)) (o .before .before .before .before .policy-of .ensures) (o .before .before .before .input-of .ensures)
+    ∙ from-bytes (now (o .before .before .before .before .before .before .before .before .args .bank)) (o .before .before .before .before .policy-of .ensures)
+    (o .before .before .before .input-of .ensures)
 
 pub traced-lent-spec : {M : Type 1} → statement M
-traced-lent-spec =
-    tie.close
-    (tie.spec
-    (λ c κs. search needs)
-    (λ c κs. search needs)
-    (λ c κs. search needs)
-    (λ c. search needs)
-    (λ c κs. search needs)
-    (λ c κs. search needs)
-    (λ c κs. search needs)
-    returns
-    (λ c. search needs)
-    (λ c. search needs)
-    (λ c κs. search needs)
-    (λ c κs. search needs)
-    scan-on-requires
-    (λ c κs. search needs)
-    (λ c κs. search needs)
-    returns-2)
+traced-lent-spec = tie.close (tie.spec (λ c κs. search needs) (λ c κs. search needs) (λ c κs. search needs) (λ c. search needs) (λ c κs. search needs)
+    (λ c κs. search needs) (λ c κs. search needs) returns (λ c. search needs) (λ c. search needs) (λ c κs. search needs) (λ c κs. search needs) scan-on-requires
+    (λ c κs. search needs) (λ c κs. search needs) returns-2)

@@ -1,8 +1,6 @@
 -- `kernel::utility_at` meets its contract. Assumes nothing.
-use mathlib.Core.Path.{_∙_}
-use borrow.Author.Needs.{needs}
-use Rattle.kernel.proofs.Singles.{only-room, only-worth}
-use Rattle.kernel.proofs.single.utility_at.Statement.{statement}
+use Rattle.rules.proofs.Kit.{_∙_, needs}
+use Rattle.kernel.proofs.{Singles.only-room, Singles.only-worth, single.utility_at.Statement.statement}
 use Rattle.kernel.proofs.single.utility_at.Tie as tie
 
 scan-on-requires : tie.Need-scan-on-requires
@@ -19,16 +17,5 @@ returns c =
     c .worth-of .ensures ∙ only-worth _ _ (s .pre .0) _ _ (p .pricing-for .ensures .0) (t .start .ensures) (c .before .scan-on .ensures)
 
 pub utility-at-spec : {M : Type 1} → statement M
-utility-at-spec =
-    tie.close
-    (tie.spec
-    (λ c. search needs)
-    (λ c. search needs)
-    (λ c κs. search needs)
-    (λ c. search needs)
-    (λ c. search needs)
-    (λ c. search needs)
-    (λ c κs. search needs)
-    scan-on-requires
-    (λ c κs. search needs)
-    returns)
+utility-at-spec = tie.close (tie.spec (λ c. search needs) (λ c. search needs) (λ c κs. search needs) (λ c. search needs) (λ c. search needs) (λ c. search needs)
+    (λ c κs. search needs) scan-on-requires (λ c κs. search needs) returns)

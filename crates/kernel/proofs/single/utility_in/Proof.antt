@@ -1,9 +1,8 @@
 -- `kernel::utility_in` meets its contract. Assumes nothing.
-use mathlib.Core.Path.{sym, ap, _∙_}
-use borrow.Author.Needs.{needs}
+use Rattle.rules.proofs.Kit.{sym, ap, _∙_, needs}
 use Rattle.rules.specs.Decide.{ifListed}
-use Rattle.deciding.proofs.Stops.{open-utility, stopped-utility}
-use Rattle.outset.proofs.Finding.{found-at, found-nothing, without, with-place}
+use Rattle.kernel_decide.proofs.Stops.{open-utility, stopped-utility}
+use Rattle.call_checks.proofs.Finding.{found-at, found-nothing, without, with-place}
 use Rattle.kernel.proofs.single.utility_in.Statement.{statement}
 use Rattle.kernel.proofs.single.utility_in.Tie as tie
 
@@ -34,15 +33,5 @@ returns-3 c =
     ∙ ap (ifListed _ _) (found-at _ _ _ (with-place (k .before .found .given .1) (f .first-listed .ensures)) .0))
 
 pub utility-in-spec : {M : Type 1} → statement M
-utility-in-spec =
-    tie.close
-    (tie.spec
-    (λ c κs. search needs)
-    (λ c. search needs)
-    returns
-    (λ c. search needs)
-    (λ c κs. search needs)
-    (λ c. search needs)
-    returns-2
-    utility-at-requires
-    returns-3)
+utility-in-spec = tie.close (tie.spec (λ c κs. search needs) (λ c. search needs) returns (λ c. search needs) (λ c κs. search needs) (λ c. search needs)
+    returns-2 utility-at-requires returns-3)

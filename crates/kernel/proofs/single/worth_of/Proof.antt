@@ -1,8 +1,6 @@
 -- `kernel::worth_of` meets its contract. Assumes nothing.
-use mathlib.Core.Path.{sym, ap, _∙_}
-use borrow.Author.Needs.{needs}
+use Rattle.rules.proofs.Kit.{sym, ap, _∙_, needs, w64}
 use mir.Facts.{toZ-ofZ}
-use mir.Syntax.{w64}
 use Rattle.rules.specs.Refused.{answered}
 use Rattle.rules.proofs.Choices.{equal-yes, equal-no}
 use Rattle.kernel.specs.Single.{worthFrom}

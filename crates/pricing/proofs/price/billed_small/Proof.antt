@@ -1,8 +1,5 @@
 -- `pricing::price::billed_small` meets its contract: two factors of 32 bits leave room to round up. Assumes nothing.
-use mathlib.Core.Path.{refl}
-use Prim.Native.Nat.{_-_, _*_, _^_, _≤_}
-use native.Mathlib.Omega.{arith}
-use borrow.Author.Needs.{needs}
+use Rattle.rules.proofs.Kit.{refl, _-_, _*_, _^_, _≤_, arith, needs}
 use Rattle.rules.specs.Price.{billed}
 use Rattle.pricing.proofs.price.billed_small.Statement.{statement}
 use Rattle.pricing.proofs.price.billed_small.Tie as tie

@@ -1,8 +1,6 @@
 -- `pricing::price::exact_wide` meets its contract: 32 bits and 64 make 96. Assumes nothing.
-use native.Mathlib.Omega.{arith}
-use borrow.Author.Needs.{needs}
-use Rattle.pricing.proofs.Values.{product-le}
-use Rattle.pricing.proofs.price.exact_wide.Statement.{statement}
+use Rattle.rules.proofs.Kit.{arith, needs}
+use Rattle.pricing.proofs.{Values.product-le, price.exact_wide.Statement.statement}
 use Rattle.pricing.proofs.price.exact_wide.Tie as tie
 
 returns : tie.Need-returns

@@ -1,10 +1,7 @@
 -- `pricing::price::scaled_price` meets its contract: two factors of 32 bits need no holding. Assumes nothing.
-use Prim.Native.Nat.{_-_, _*_, _^_, _≤_}
-use native.Mathlib.Omega.{arith}
-use borrow.Author.Needs.{needs}
+use Rattle.rules.proofs.Kit.{_-_, _*_, _^_, _≤_, arith, needs}
 use Rattle.rules.specs.Price.{scaledPrice}
-use Rattle.pricing.proofs.Values.{product-le}
-use Rattle.pricing.proofs.price.scaled_price.Statement.{statement}
+use Rattle.pricing.proofs.{Values.product-le, price.scaled_price.Statement.statement}
 use Rattle.pricing.proofs.price.scaled_price.Tie as tie
 
 known : (c : tie.Then2) → c .before .before .args .price * c .before .before .args .scale ≤ (2 ^ 32 - 1) * (2 ^ 32 - 1)

@@ -1,6 +1,5 @@
 -- `pricing::price::scaled_price_wide` meets its contract. Assumes nothing.
-use native.Mathlib.Omega.{arith}
-use borrow.Author.Needs.{needs}
+use Rattle.rules.proofs.Kit.{arith, needs}
 use Rattle.rules.specs.Price.{scaledPrice}
 use Rattle.pricing.proofs.price.scaled_price_wide.Statement.{statement}
 use Rattle.pricing.proofs.price.scaled_price_wide.Tie as tie

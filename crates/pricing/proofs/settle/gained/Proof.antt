@@ -1,11 +1,7 @@
 -- `pricing::settle::gained` meets its contract, by the sign. Assumes nothing.
-use mathlib.Core.Path.{_≡_, sym, ap, _∙_}
-use mathlib.Core.Bool.{false}
-use lib.IntN.{pos}
-use lib.Signed.{ltZ}
+use Rattle.rules.proofs.Kit.{_≡_, sym, ap, _∙_, false, pos, ltZ}
 use mir.Facts.{toZ-ofZ, fits-natAbs}
-use Rattle.pricing.proofs.Scores.{gain-neg, nonneg, gain-pos}
-use Rattle.pricing.proofs.settle.gained.Statement.{statement}
+use Rattle.pricing.proofs.{Scores.gain-neg, Scores.nonneg, Scores.gain-pos, settle.gained.Statement.statement}
 use Rattle.pricing.proofs.settle.gained.Tie as tie
 
 left : (c : tie.Else1) → ltZ (c .before .args .value) (pos 0) ≡ false

@@ -1,11 +1,6 @@
 -- `pricing::settle::pricing_of` meets its contract, field by field. Assumes nothing.
-use mathlib.Core.Path.{ap, _∙_}
-use borrow.Author.Needs.{needs}
-use mir.Syntax.{w64}
-use mir.Val.{SFits}
-use mir.ValLaws.{toZ-ofZ}
-use Rattle.rules.specs.Utility.{orZero, shareOf, riskTermOf}
-use Rattle.rules.specs.Wide.{wideOf}
+use Rattle.rules.proofs.Kit.{ap, _∙_, needs, w64, SFits, toZ-ofZ}
+use Rattle.rules.specs.{Utility.orZero, Utility.shareOf, Utility.riskTermOf, Wide.wideOf}
 use Rattle.pricing.specs.Pricing.{prefixOf, pricingOf}
 use Rattle.pricing.proofs.settle.pricing_of.Statement.{statement}
 use Rattle.pricing.proofs.settle.pricing_of.Tie as tie

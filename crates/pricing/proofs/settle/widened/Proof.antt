@@ -1,8 +1,7 @@
 -- `pricing::settle::widened` meets its contract. Assumes nothing.
-use native.Mathlib.Omega.{arith}
+use Rattle.rules.proofs.Kit.{arith}
 use Rattle.limbs.proofs.Limbs.{limbs-is}
-use Rattle.pricing.proofs.Values.{wide-is}
-use Rattle.pricing.proofs.settle.widened.Statement.{statement}
+use Rattle.pricing.proofs.{Values.wide-is, settle.widened.Statement.statement}
 use Rattle.pricing.proofs.settle.widened.Tie as tie
 
 pub widened-spec : {M : Type 1} → statement M

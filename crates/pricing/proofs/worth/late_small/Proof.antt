@@ -1,8 +1,6 @@
 -- `pricing::worth::late_small` meets its contract: 32 bits and 32 make 64. Assumes nothing.
-use native.Mathlib.Omega.{arith}
-use borrow.Author.Needs.{needs}
-use Rattle.pricing.proofs.Values.{product-le}
-use Rattle.pricing.proofs.worth.late_small.Statement.{statement}
+use Rattle.rules.proofs.Kit.{arith, needs}
+use Rattle.pricing.proofs.{Values.product-le, worth.late_small.Statement.statement}
 use Rattle.pricing.proofs.worth.late_small.Tie as tie
 
 mul-result : tie.Need-mul-result

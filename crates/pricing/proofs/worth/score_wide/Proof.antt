@@ -1,18 +1,19 @@
 -- `pricing::worth::score_wide` meets its contract: a negative difference is held at 0, any other at the highest u64.
 -- Assumes nothing.
-use mathlib.Core.Path.{sym, _∙_}
-use native.Mathlib.Omega.{arith}
-use borrow.Author.Tests.{ltb-true, ltb-false}
-use borrow.Author.Needs.{needs}
+use Rattle.rules.proofs.Kit.{sym, _∙_, arith, ltb-true, ltb-false, needs}
 use Rattle.rules.specs.Wide.{val}
 use Rattle.pricing.specs.Score.{scoreOf}
-use Rattle.pricing.proofs.Scores.{size-is}
-use Rattle.pricing.proofs.worth.score_wide.Statement.{statement}
+use Rattle.pricing.proofs.{Scores.size-is, worth.score_wide.Statement.statement}
 use Rattle.pricing.proofs.worth.score_wide.Tie as tie
 
 returns : tie.Need-returns
 unfolding scoreOf
-returns c = omega (arith, ltb-true (val (c .before .before .add .result)) (val (c .before .before .before .before .args .loss)) (sym (c .before .difference .ensures .1) ∙ c .if1 .taken))
+returns c =
+    omega (
+      arith,
+      ltb-true (val (c .before .before .add .result)) (val (c .before .before .before .before .args .loss))
+          (sym (c .before .difference .ensures .1) ∙ c .if1 .taken),
+    )
 
 returns-2 : tie.Need-returns-2
 unfolding scoreOf

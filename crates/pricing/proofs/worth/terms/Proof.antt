@@ -1,10 +1,7 @@
 -- `pricing::worth::terms` meets its contract: the short way computes the same four terms. Assumes nothing.
-use mathlib.Core.Path.{_∙_}
-use native.Mathlib.Omega.{arith}
-use borrow.Author.Needs.{needs}
+use Rattle.rules.proofs.Kit.{_∙_, arith, needs}
 use Rattle.pricing.specs.Pricing.{scoredTerms, termsWith}
-use Rattle.pricing.proofs.Values.{prefix-share}
-use Rattle.pricing.proofs.worth.terms.Statement.{statement}
+use Rattle.pricing.proofs.{Values.prefix-share, worth.terms.Statement.statement}
 use Rattle.pricing.proofs.worth.terms.Tie as tie
 
 returns : tie.Need-returns
@@ -21,13 +18,5 @@ unfolding termsWith
 returns-2 c = c .terms-exact .ensures
 
 pub terms-spec : {M : Type 1} → statement M
-terms-spec =
-    tie.close
-    (tie.spec
-    (λ c κs. search needs)
-    (λ c κs. search needs)
-    (λ c κs. search needs)
-    (λ c κs. search needs)
-    returns
-    (λ c κs. search needs)
+terms-spec = tie.close (tie.spec (λ c κs. search needs) (λ c κs. search needs) (λ c κs. search needs) (λ c κs. search needs) returns (λ c κs. search needs)
     returns-2)

@@ -1,15 +1,9 @@
 -- `pricing::worth::terms_exact` meets its contract: no sum of the four terms comes near 2 ^ 126. Assumes nothing.
-use mathlib.Core.Path.{_≡_, ap, ap₂, _∙_}
-use Prim.Native.Nat.{_+_, _*_, _^_, _<_}
-use native.Mathlib.Omega.{arith}
-use borrow.Author.Needs.{needs}
-use Rattle.rules.specs.Wide.{val, limbs}
-use Rattle.rules.specs.Utility.{shareOf}
-use Rattle.pricing.specs.Score.{scoreOf}
-use Rattle.pricing.specs.Pricing.{scoredTerms}
+use Rattle.rules.proofs.Kit.{_≡_, ap, ap₂, _∙_, _+_, _*_, _^_, _<_, arith, needs}
+use Rattle.rules.specs.{Wide.val, Wide.limbs, Utility.shareOf}
+use Rattle.pricing.specs.{Score.scoreOf, Pricing.scoredTerms}
 use Rattle.rules.proofs.Limbs.{wide-val}
-use Rattle.pricing.proofs.Values.{product-le, share-lt, wide-is}
-use Rattle.pricing.proofs.worth.terms_exact.Statement.{statement}
+use Rattle.pricing.proofs.{Values.product-le, Values.share-lt, Values.wide-is, worth.terms_exact.Statement.statement}
 use Rattle.pricing.proofs.worth.terms_exact.Tie as tie
 
 -- the latency term, and the quality term
@@ -26,7 +20,15 @@ add-requires : tie.Need-add-requires
 add-requires c κs = omega (arith, late (c .before .before .before))
 
 add-requires-2 : tie.Need-add-requires-2
-add-requires-2 c κs = omega (arith, late (c .before .before .before .before), c .before .before .before .before .pre, c .before .before .product .ensures, c .before .of-one .ensures, c .add .ensures)
+add-requires-2 c κs =
+    omega (
+      arith,
+      late (c .before .before .before .before),
+      c .before .before .before .before .pre,
+      c .before .before .product .ensures,
+      c .before .of-one .ensures,
+      c .add .ensures,
+    )
 
 score-wide-requires : tie.Need-score-wide-requires
 score-wide-requires c κs = omega (arith, good (c .before .before .before .before .before), sure (c .before .before .before .before))
@@ -36,7 +38,9 @@ unfolding scoredTerms
 returns c =
     let s = c .before .before .before .before .before .before .args in
     let q = c .before .before .before .before .product in
-    let l : val (c .before .add2 .result) ≡ limbs (s .hi) (s .lo) + (s .cost + s .ms * s .penalty) = omega (arith, q .ensures, c .before .before .before .of-one .ensures, c .before .before .add .ensures, c .before .add2 .ensures) in
+    let l : val (c .before .add2 .result)
+    ≡ limbs (s .hi) (s .lo) + (s .cost + s .ms * s .penalty) =
+    omega (arith, q .ensures, c .before .before .before .of-one .ensures, c .before .before .add .ensures, c .before .add2 .ensures) in
     let e = c .score-wide .ensures ∙ ap₂ scoreOf (sure (c .before .before .before .before .before)) l in
     let w = wide-is (q .result) _ (omega arith) (q .ensures) in
     λ i. record {
@@ -48,13 +52,5 @@ returns c =
     }
 
 pub terms-exact-spec : {M : Type 1} → statement M
-terms-exact-spec =
-    tie.close
-    (tie.spec
-    (λ c κs. search needs)
-    (λ c κs. search needs)
-    (λ c κs. search needs)
-    add-requires
-    add-requires-2
-    score-wide-requires
+terms-exact-spec = tie.close (tie.spec (λ c κs. search needs) (λ c κs. search needs) (λ c κs. search needs) add-requires add-requires-2 score-wide-requires
     returns)

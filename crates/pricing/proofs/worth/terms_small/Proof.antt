@@ -1,11 +1,7 @@
 -- `pricing::worth::terms_small` meets its contract: the score stays below 2 ^ 64, so that only 0 holds it. Assumes nothing.
-use mathlib.Core.Path.{_≡_}
-use Prim.Native.Nat.{_+_}
-use native.Mathlib.Omega.{arith}
-use borrow.Author.Needs.{needs}
+use Rattle.rules.proofs.Kit.{_≡_, _+_, arith, needs}
 use Rattle.rules.specs.Wide.{val}
-use Rattle.pricing.specs.Score.{scoreOf}
-use Rattle.pricing.specs.Pricing.{scoredTerms}
+use Rattle.pricing.specs.{Score.scoreOf, Pricing.scoredTerms}
 use Rattle.pricing.proofs.worth.terms_small.Statement.{statement}
 use Rattle.pricing.proofs.worth.terms_small.Tie as tie
 
@@ -23,14 +19,5 @@ returns c =
     }
 
 pub terms-small-spec : {M : Type 1} → statement M
-terms-small-spec =
-    tie.close
-    (tie.spec
-    (λ c κs. search needs)
-    (λ c. search needs)
-    (λ c. search needs)
-    (λ c κs. search needs)
-    (λ c κs. search needs)
-    (λ c κs. search needs)
-    (λ c κs. search needs)
-    returns)
+terms-small-spec = tie.close (tie.spec (λ c κs. search needs) (λ c. search needs) (λ c. search needs) (λ c κs. search needs) (λ c κs. search needs)
+    (λ c κs. search needs) (λ c κs. search needs) returns)

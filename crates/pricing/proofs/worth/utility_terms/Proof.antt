@@ -1,8 +1,5 @@
 -- `pricing::worth::utility_terms` meets its contract, field by field. Assumes nothing.
-use mathlib.Core.Path.{_∙_}
-use borrow.Author.Needs.{needs}
-use mir.Syntax.{w64}
-use mir.ValLaws.{toZ-ofZ}
+use Rattle.rules.proofs.Kit.{_∙_, needs, w64, toZ-ofZ}
 use Rattle.pricing.specs.Pricing.{utilityTermsOf}
 use Rattle.pricing.proofs.worth.utility_terms.Statement.{statement}
 use Rattle.pricing.proofs.worth.utility_terms.Tie as tie

@@ -1,17 +1,10 @@
 -- `stored::catalog::read_stored` meets its contract. Assumes nothing.
-use Prim.Native.Nat.{ℕ}
-use mathlib.Core.Path.{_≡_, refl, ap, _∙_}
-use mathlib.Core.List.{List}
-use native.Mathlib.Omega.{arith}
-use borrow.Author.Needs.{needs}
-use denote.Ref.{now}
-use lib.ListN.{length}
-use Rattle.rules.specs.Records.{policyOf}
-use Rattle.rules.specs.Stored.{bodyOf, storedBank, readStoredOf, readStoredBuffer}
-use Rattle.outset.proofs.Refusals.{none-told}
-use Rattle.stored.proofs.Buffers.{stays}
-use Rattle.stored.proofs.Reading.{CatalogFields, catalog-fields, policy-length, reading-refused, reading-short, reading-none, stored-read}
-use Rattle.stored.proofs.catalog.read_stored.Statement.{statement}
+use Rattle.rules.proofs.Kit.{ℕ, _≡_, refl, ap, _∙_, List, arith, needs, now, length}
+use Rattle.rules.proofs.Faults.{none-told}
+use Rattle.rules.specs.{Records.policyOf, Stored.bodyOf, Stored.storedBank, Stored.readStoredOf, Stored.readStoredBuffer}
+use Rattle.stored_fields.proofs.{Buffers.stays, Lengths.policy-length}
+use Rattle.stored.proofs.{Reading.CatalogFields, Reading.catalog-fields, Reading.reading-refused, Reading.reading-short, Reading.reading-none}
+use Rattle.stored.proofs.{Reading.stored-read, catalog.read_stored.Statement.statement}
 use Rattle.stored.proofs.catalog.read_stored.Tie as tie
 
 returns : tie.Need-returns
@@ -58,19 +51,6 @@ returns-3 c =
     (c .before .before .before .before .put-bytes .ensures)
 
 pub read-stored-spec : {M : Type 1} → statement M
-read-stored-spec =
-    tie.close
-    (tie.spec
-    (λ c. search needs)
-    (λ c κs. search needs)
-    (λ c. search needs)
-    returns
-    (λ c. search needs)
-    (λ c κs. fields c .policy .whole)
-    front-body-requires
-    returns-2
-    (λ c κs. search needs)
-    (λ c κs. fields (c .before .before .before .before .before .before .before) .policy .whole)
-    policy-of-requires
-    (λ c. search needs)
-    returns-3)
+read-stored-spec = tie.close (tie.spec (λ c. search needs) (λ c κs. search needs) (λ c. search needs) returns (λ c. search needs)
+    (λ c κs. fields c .policy .whole) front-body-requires returns-2 (λ c κs. search needs)
+    (λ c κs. fields (c .before .before .before .before .before .before .before) .policy .whole) policy-of-requires (λ c. search needs) returns-3)

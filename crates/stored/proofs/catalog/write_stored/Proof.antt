@@ -1,20 +1,12 @@
 -- `stored::catalog::write_stored` meets its contract. Assumes nothing.
-use Prim.Native.Nat.{ℕ, _+_, _≤_}
-use mathlib.Core.Path.{_≡_, sym, ap, _∙_}
-use mathlib.Core.List.{List, [], _++_}
-use native.Mathlib.Omega.{arith}
-use borrow.Author.Needs.{needs}
-use denote.Ref.{now}
-use lib.ListN.{length}
-use Rattle.rules.specs.Stored.{fieldBytes, storedForm, writeStoredOf, writeStoredBuffer}
-use Rattle.outset.specs.Refuse.{leading}
+use Rattle.rules.proofs.Kit.{ℕ, _+_, _≤_, _≡_, sym, ap, _∙_, List, [], _++_, arith, needs, now, length}
+use Rattle.rules.specs.{Refused.firstFault, Stored.fieldBytes, Stored.storedForm, Stored.writeStoredOf, Stored.writeStoredBuffer}
+use Rattle.rules.proofs.Faults.{none-told}
 use Rattle.packing.proofs.Trips.{length-policy}
 use Rattle.splice.proofs.Pieces.{written-then, written-as, written}
-use Rattle.stored.specs.Fields.{writingFaults}
-use Rattle.outset.proofs.Refusals.{none-told}
-use Rattle.stored.proofs.Buffers.{fills, stays}
-use Rattle.stored.proofs.Writing.{length-field, writing-refuses, writing-room}
-use Rattle.stored.proofs.catalog.write_stored.Statement.{statement}
+use Rattle.stored.specs.Writing.{writingFaults}
+use Rattle.stored_fields.proofs.Buffers.{fills, stays}
+use Rattle.stored.proofs.{Writing.length-field, Writing.writing-refuses, Writing.writing-room, catalog.write_stored.Statement.statement}
 use Rattle.stored.proofs.catalog.write_stored.Tie as tie
 
 returns : tie.Need-returns
@@ -22,7 +14,7 @@ unfolding writeStoredOf writeStoredBuffer
 returns c =
     let a = c .before .before .before .before .before .before .args in
     stays _ _ _ _ (c .before .outcome .given .1)
-    (c .before .before .before .writing .ensures ∙ ap leading (writing-refuses (a .policy) (now (a .bank)) (length (now (a .out)))))
+    (c .before .before .before .writing .ensures ∙ ap firstFault (writing-refuses (a .policy) (now (a .bank)) (length (now (a .out)))))
 
 abbrev bank₀ : tie.After-enum-told → List ℕ
 bank₀ c = now (c .before .before .before .before .before .args .bank)
@@ -61,16 +53,5 @@ returns-2 c =
     (written-as both (ap (λ (b : List ℕ). fieldBytes 1 b ++ fieldBytes 2 (bank₀ e)) (h .policy-bytes .ensures)))
 
 pub write-stored-spec : {M : Type 1} → statement M
-write-stored-spec =
-    tie.close
-    (tie.spec
-    (λ c κs. search needs)
-    (λ c. search needs)
-    returns
-    (λ c. search needs)
-    (λ c κs. search needs)
-    (λ c. search needs)
-    put-field-requires
-    put-field-requires-2
-    (λ c. search needs)
-    returns-2)
+write-stored-spec = tie.close (tie.spec (λ c κs. search needs) (λ c. search needs) returns (λ c. search needs) (λ c κs. search needs) (λ c. search needs)
+    put-field-requires put-field-requires-2 (λ c. search needs) returns-2)

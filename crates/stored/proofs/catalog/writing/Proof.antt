@@ -1,10 +1,8 @@
 -- `stored::catalog::writing` meets its contract. Assumes nothing.
-use mathlib.Core.Path.{refl}
-use Rattle.outset.proofs.Refusals.{append-refused}
-use Rattle.stored.specs.Fields.{writingFaults}
-use Rattle.stored.proofs.Writing.{writing-many, writing-short, writing-passed}
-use borrow.Author.Needs.{needs}
-use Rattle.stored.proofs.catalog.writing.Statement.{statement}
+use Rattle.rules.proofs.Kit.{refl, needs}
+use Rattle.stored.specs.Writing.{writingFaults}
+use Rattle.stored.proofs.{Writing.writing-many, Writing.writing-short, Writing.writing-passed, catalog.writing.Statement.statement}
+use Rattle.rules.proofs.Faults.{append-refused}
 use Rattle.stored.proofs.catalog.writing.Tie as tie
 
 returns : tie.Need-returns
@@ -26,16 +24,5 @@ returns-4 c =
     writing-passed _ _ (b .enum-told .given .1) (b .before .before .bank-outcome .ensures) (c .before .if1 .left) (c .if2 .left)
 
 pub writing-spec : {M : Type 1} → statement M
-writing-spec =
-    tie.close
-    (tie.spec
-    (λ c κs. search needs)
-    (λ c. search needs)
-    returns
-    (λ c. search needs)
-    returns-2
-    (λ c. search needs)
-    (λ c. search needs)
-    (λ c. search needs)
-    returns-3
-    returns-4)
+writing-spec = tie.close (tie.spec (λ c κs. search needs) (λ c. search needs) returns (λ c. search needs) returns-2 (λ c. search needs) (λ c. search needs)
+    (λ c. search needs) returns-3 returns-4)

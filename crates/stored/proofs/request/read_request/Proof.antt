@@ -1,22 +1,14 @@
 -- `stored::request::read_request` meets its contract. Assumes nothing.
-use Prim.Native.Nat.{ℕ}
-use mathlib.Core.Path.{_≡_, sym, ap, _∙_}
-use mathlib.Core.List.{List, [], _∷_}
-use native.Mathlib.Omega.{arith}
-use borrow.Author.Needs.{needs}
-use denote.Ref.{now}
-use Rattle.rules.specs.Records.{inputOf}
-use Rattle.rules.specs.Stored.{formFaults, readRequestOf}
-use Rattle.outset.proofs.Refusals.{unless-refused, none-told}
-use Rattle.stored.proofs.OneField.{Passed}
-use Rattle.stored.proofs.Forms.{form-passed}
-use Rattle.stored.proofs.Reading.{request-length, request-read}
-use Rattle.stored.proofs.request.read_request.Statement.{statement}
+use Rattle.rules.proofs.Kit.{ℕ, _≡_, sym, ap, _∙_, List, [], _∷_, arith, needs, now}
+use Rattle.rules.specs.{Refused.refused, Records.inputOf, Stored.formFaults, Stored.readRequestOf}
+use Rattle.rules.proofs.Faults.{unless-refused, none-told}
+use Rattle.stored_fields.proofs.{OneField.Passed, Forms.form-passed, Lengths.request-length}
+use Rattle.stored.proofs.{Reading.request-read, request.read_request.Statement.statement}
 use Rattle.stored.proofs.request.read_request.Tie as tie
 
 returns : tie.Need-returns
 unfolding readRequestOf
-returns c = sym (unless-refused _ _ (c .before .outcome .given .1) (c .before .before .before .lay-out .ensures))
+returns c = sym (unless-refused _ refused _ (c .before .outcome .given .1) (c .before .before .before .lay-out .ensures))
 
 abbrev form₀ : tie.After-enum-told → List ℕ
 form₀ c = now (c .before .before .before .before .before .args .form)
@@ -37,14 +29,5 @@ returns-2 c =
     request-read _ (none (f .before)) (c .input-of .ensures ∙ ap inputOf (f .front-body .ensures))
 
 pub read-request-spec : {M : Type 1} → statement M
-read-request-spec =
-    tie.close
-    (tie.spec
-    (λ c. search needs)
-    (λ c κs. search needs)
-    (λ c. search needs)
-    returns
-    (λ c. search needs)
-    (λ c κs. field c .whole)
-    input-of-requires
-    returns-2)
+read-request-spec = tie.close (tie.spec (λ c. search needs) (λ c κs. search needs) (λ c. search needs) returns (λ c. search needs) (λ c κs. field c .whole)
+    input-of-requires returns-2)

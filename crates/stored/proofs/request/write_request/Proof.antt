@@ -1,14 +1,10 @@
 -- `stored::request::write_request` meets its contract. Assumes nothing.
-use mathlib.Core.Path.{refl, ap}
-use native.Mathlib.Omega.{arith}
+use Rattle.rules.proofs.Kit.{refl, ap, arith, needs}
 use Rattle.rules.specs.Stored.{fieldBytes, requestForm, writeRequestOf, writeRequestBuffer}
 use Rattle.splice.proofs.Pieces.{written-as, written}
-use Rattle.rules.proofs.Faults.{room-enough}
-use Rattle.outset.proofs.Refusals.{room-short}
-use Rattle.stored.proofs.Buffers.{fills, stays}
-use Rattle.stored.proofs.Writing.{length-request}
-use borrow.Author.Needs.{needs}
-use Rattle.stored.proofs.request.write_request.Statement.{statement}
+use Rattle.rules.proofs.Faults.{room-enough, room-short}
+use Rattle.stored_fields.proofs.Buffers.{fills, stays}
+use Rattle.stored.proofs.{Writing.length-request, request.write_request.Statement.statement}
 use Rattle.stored.proofs.request.write_request.Tie as tie
 
 returns : tie.Need-returns
@@ -25,13 +21,5 @@ returns-2 c =
     (written-as (written _ _ _ (c .before .before .put-field .ensures)) (ap (fieldBytes 3) (b .input-bytes .ensures)))
 
 pub write-request-spec : {M : Type 1} → statement M
-write-request-spec =
-    tie.close
-    (tie.spec
-    (λ c. search needs)
-    returns
-    (λ c κs. search needs)
-    (λ c. search needs)
-    (λ c κs. search needs)
-    (λ c. search needs)
+write-request-spec = tie.close (tie.spec (λ c. search needs) returns (λ c κs. search needs) (λ c. search needs) (λ c κs. search needs) (λ c. search needs)
     returns-2)

@@ -1,4 +1,4 @@
-use borrow.Author.Needs.{needs}
+use Rattle.rules.proofs.Kit.{needs}
 use Rattle.rules.proofs.decision.KernelDecision.is_rejected.Statement.{statement}
 use Rattle.rules.proofs.decision.KernelDecision.is_rejected.Tie as tie
 

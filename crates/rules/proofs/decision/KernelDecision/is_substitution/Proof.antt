@@ -1,4 +1,4 @@
-use borrow.Author.Needs.{needs}
+use Rattle.rules.proofs.Kit.{needs}
 use Rattle.rules.proofs.decision.KernelDecision.is_substitution.Statement.{statement}
 use Rattle.rules.proofs.decision.KernelDecision.is_substitution.Tie as tie
 

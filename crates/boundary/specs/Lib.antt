@@ -1,2 +1,0 @@
--- What the exported functions refuse, in their order, and what they tell.
-pub mod Boundary

@@ -1,0 +1,2 @@
+-- The laws of the first listed record, which callers cite.
+pub mod Finding

@@ -1,0 +1,3 @@
+-- The laws of the tests record by record, which callers cite.
+pub mod Walks
+pub mod Rising

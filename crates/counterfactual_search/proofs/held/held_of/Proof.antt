@@ -1,0 +1,13 @@
+-- `counterfactual_search::held_of` meets its contract. Assumes nothing.
+use Rattle.rules.proofs.Kit.{_∙_, needs}
+use Rattle.counterfactual_search.proofs.held.held_of.Statement.{statement}
+use Rattle.counterfactual_search.proofs.held.held_of.Tie as tie
+
+returns : tie.Need-returns
+returns c =
+    let n = c .held-numbers .ensures in
+    let p = c .before .pricing-for .ensures in
+    (n .0, n .1, n .2, n .3 ∙ p .0, rw (n .3) (p .1))
+
+pub held-of-spec : {M : Type 1} → statement M
+held-of-spec = tie.close (tie.spec (λ c κs. search needs) (λ c κs. search needs) returns)

@@ -1,2 +1,0 @@
--- What the exported functions hand over besides decisions and texts: what each refuses, and what it writes.
-pub mod Delivery

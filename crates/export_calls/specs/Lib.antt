@@ -1,0 +1,2 @@
+-- What the exported functions that decide, explain and look up leave.
+pub mod Calls

@@ -1,0 +1,2 @@
+-- What the exported functions that check a catalogue leave.
+pub mod Catalogue

@@ -1,0 +1,80 @@
+// What a call refuses before it decides: the lengths of what comes in, the bank, the room for the answer.
+use crate::word::outcome_word;
+use bank::unchecked::input_of;
+use call_checks::refuse::bank_outcome;
+use call_checks::refuse::input_outcome;
+use rules::Outcome;
+use rules::Refusal;
+use rules::limits::POLICY_BYTES;
+use rules::limits::REQUEST_BYTES;
+ghost use mathlib.Core.Path.{_≡_};
+ghost use Rattle.rules.specs.Refused.{firstFault, toldOutcome};
+ghost use Rattle.export_checks.specs.Checks.{lent, lentFaults, openingFaults, checkedFaults, checkFaults, wordOf};
+
+// 1 or 2 for the bank, then 4 where the answer needs more room.
+pub fn lent_outcome(bank: &[u8], needed: usize, room: usize) -> Outcome
+    ensures { λ r. ⌜ toldOutcome r ≡ firstFault (lentFaults (now (bank .entry)) needed room) ⌝ }
+{
+    let outcome = bank_outcome(bank.len());
+    if let Outcome::Refused(refusal) = outcome {
+        return Outcome::Refused(refusal);
+    }
+    if room < needed {
+        return Outcome::Refused(Refusal::NoRoom);
+    }
+    Outcome::Answered
+}
+
+// 22 for the policy or the request, then 1, 2 and 4.
+pub fn opening_outcome(
+    policy: &[u8],
+    request: &[u8],
+    bank: &[u8],
+    needed: usize,
+    room: usize,
+) -> Outcome
+    ensures { λ r. ⌜ toldOutcome r ≡ firstFault (openingFaults (lent (now (policy .entry)) (now (request .entry)) (now (bank .entry))) needed room) ⌝ }
+{
+    if policy.len() != POLICY_BYTES {
+        return Outcome::Refused(Refusal::WrongLength);
+    }
+    if request.len() != REQUEST_BYTES {
+        return Outcome::Refused(Refusal::WrongLength);
+    }
+    lent_outcome(bank, needed, room)
+}
+
+// The same, then 3 for the request.
+pub fn checked_opening(
+    policy: &[u8],
+    request: &[u8],
+    bank: &[u8],
+    needed: usize,
+    room: usize,
+) -> Outcome
+    ensures { λ r. ⌜ toldOutcome r ≡ firstFault (checkedFaults (lent (now (policy .entry)) (now (request .entry)) (now (bank .entry))) needed room) ⌝ }
+{
+    let outcome = opening_outcome(policy, request, bank, needed, room);
+    if let Outcome::Refused(refusal) = outcome {
+        return Outcome::Refused(refusal);
+    }
+    let input = input_of(request);
+    input_outcome(input, 0)
+}
+
+// Of the request check alone: 22, then 3.
+pub fn request_outcome(request: &[u8]) -> Outcome
+    ensures { λ r. ⌜ toldOutcome r ≡ firstFault (checkFaults (now (request .entry))) ⌝ }
+{
+    if request.len() != REQUEST_BYTES {
+        return Outcome::Refused(Refusal::WrongLength);
+    }
+    input_outcome(input_of(request), 0)
+}
+
+// Its word.
+pub fn request_word(request: &[u8]) -> u64
+    ensures { λ r. ⌜ r ≡ wordOf (firstFault (checkFaults (now (request .entry)))) ⌝ }
+{
+    outcome_word(request_outcome(request))
+}

@@ -1,0 +1,71 @@
+-- What each call leaves, from what the calls below it tell. Assumes nothing.
+use Rattle.rules.proofs.Kit.{ℕ, _+_, _<_, _≤_, _≡_, _∙_, Bool, true, false, List, [], _∷_, _++_, arith, lt-ltb, le-ltb, ltb, length}
+use Rattle.rules.specs.{Limits.policyBytes, Limits.requestBytes, Bytes.bytesOf, Records.recordsIn, Refused.Faults, Refused.fault, Refused.refuseIf}
+use Rattle.rules.specs.{Refused.firstFault, Refused.toldOutcome, Refused.bankFaults, Refused.roomFaults, Refused.listUnless, Refused.Answer, Refused.answered}
+use Rattle.rules.specs.{Listing.readingFaults, Stored.formFaults, Stored.storedBank, Stored.readFaults, declared.refusal.Outcome.Outcome}
+use Rattle.rules.specs.{declared.refusal.Outcome.the-variants.Answered}
+use Rattle.rules.proofs.Faults.{none-first, none-told}
+use Rattle.endian.specs.Put.{patched}
+use Rattle.endian.proofs.Stored.{patch-join}
+use Rattle.export_checks.specs.Checks.{wordAt, wordOf, wordSize, lentFaults, delivered, handed, itself}
+use Rattle.export_checks.proofs.{Openings.room-first, Handed.Told, Handed.delivered-so}
+use Rattle.export_forms.specs.Forms.{recordAtFaults, writtenWord, storedSize, storedBytes, storedIn, roomlessFaults, readStoredCall, readRequestFaults}
+
+-- ---- a record's offset
+
+module _ (bank : List ℕ) (place room : ℕ) (e : lentFaults bank wordSize room ≡ []) where
+  bank-passes : bankFaults bank ≡ []
+  bank-passes = none-first (bankFaults bank) (roomFaults wordSize room) e
+
+  -- the bank and the room pass: 8, or nothing
+  pub place-beyond : recordsIn (length bank) ≤ place → recordAtFaults bank place room ≡ fault 8 ∷ []
+  unfolding readingFaults
+  place-beyond h = rw (e, bank-passes, le-ltb place (recordsIn (length bank)) h)
+
+  pub place-within : place < recordsIn (length bank) → recordAtFaults bank place room ≡ []
+  unfolding readingFaults
+  place-within h = rw (e, bank-passes, lt-ltb place (recordsIn (length bank)) h)
+
+-- ---- forms
+
+-- A form that was written: the word tells what was refused, and the buffer holds the form or is as it was
+pub written-so : {t : Answer ℕ} {w n : ℕ} {after : List ℕ} (fs : Faults) (form out : List ℕ) → Told t fs n → after ≡ listUnless fs form out
+    → w ≡ writtenWord t → (w, after) ≡ handed itself fs (answered form) out
+unfolding handed
+written-so [] form out h k e = rw (e, h .is, k)
+written-so (f ∷ fs) form out h k e = rw (e, h .is, k)
+
+-- The request form passes and has no room
+pub request-short : (form : List ℕ) (room : ℕ) → formFaults (3 ∷ []) form ≡ [] → room < requestBytes → readRequestFaults form room ≡ fault 4 ∷ []
+request-short form room e h = rw (e, room-first requestBytes room h)
+
+-- The form has no fault of its own: 4
+pub four-left : {o : Outcome} {w : ℕ} (fs : Faults) → o ≡ Answered → toldOutcome o ≡ firstFault fs → w ≡ wordAt 0 (fault 4)
+    → w ≡ wordOf (firstFault (fs ++ (fault 4 ∷ [])))
+unfolding firstFault
+four-left fs e h k = rw (none-told fs e h) k
+
+-- The policy that was read has no room: the form's own fault, else 4, and neither buffer is written
+pub roomless-so : {w : ℕ} (form bank out : List ℕ) → length out < storedSize → w ≡ wordOf (firstFault (roomlessFaults form))
+    → ((w, out), bank) ≡ readStoredCall form bank out
+unfolding readFaults roomFaults firstFault handed
+roomless-so {w} form bank out short h =
+    rw (lt-ltb (length out) storedSize short)
+    (go (formFaults (1 ∷ 2 ∷ []) form) (ltb (length bank) (length (storedBank form))) h)
+  where
+    leaves : Faults → (ℕ × List ℕ) × List ℕ
+    leaves fs = (handed storedBytes fs (answered (storedIn form)) out, listUnless fs (storedBank form) bank)
+
+    go : (fs : Faults) (t : Bool) → w ≡ wordOf (firstFault (fs ++ (fault 4 ∷ [])))
+        → ((w, out), bank) ≡ leaves ((fs ++ refuseIf t (fault 4)) ++ (fault 4 ∷ []))
+    go [] true e = rw e
+    go [] false e = rw e
+    go (f ∷ fs) t e = rw e
+
+-- A policy at the start of a buffer, and a length right after it
+pub policy-and-length : {e g : List ℕ} (d head : List ℕ) (n : ℕ) → length head ≡ policyBytes → storedSize ≤ length d
+    → e ≡ patched d 0 head → g ≡ patched e policyBytes (bytesOf wordSize n) → (0, g) ≡ delivered (head ++ bytesOf wordSize n) d
+policy-and-length d head n long room first second =
+    let next : policyBytes ≡ 0 + length head = omega (arith, long) in
+    let join = patch-join d 0 head (bytesOf wordSize n) (omega (arith, long, room)) in
+    delivered-so _ _ (second ∙ (λ i. patched (first i) (next i) (bytesOf wordSize n)) ∙ join)

@@ -1,0 +1,33 @@
+-- Single bytes of an answer, and what is filled in first. Assumes nothing.
+use Rattle.rules.proofs.Kit.{ℕ, _+_, _<_, _≤_, _≡_, _∙_, List, _++_, arith, zero-add, length, set}
+use Rattle.rules.specs.{Bytes.bytesOf, Bytes.packed, Bytes.filled, Numbers.Decision, Numbers.Boundary, Numbers.actionNo}
+use Rattle.rules.specs.{declared.decision.KernelAction.KernelAction}
+use Rattle.endian.specs.Put.{patched}
+use Rattle.endian.proofs.Stored.{byte-patch, patch-join}
+use Rattle.packing.proofs.{Layouts.length-packed, Packing.Laid}
+use Rattle.splice.proofs.Pieces.{patched-start}
+use Rattle.export_layout.specs.Layout.{decisionFields, uncountedBytes, headBytes}
+use Rattle.rules.specs.declared.decision.KernelAction.the-variants as action
+
+-- An action's number is a byte of its own
+action-small : (a : KernelAction) → actionNo a < 256
+action-small action.ExecuteRequested = omega arith
+action-small action.Substitute = omega arith
+action-small action.Reject = omega arith
+
+pub action-patch : (d : List ℕ) (at : ℕ) {b : ℕ} (a : KernelAction) → at < length d → b ≡ actionNo a → set d at b ≡ patched d at (bytesOf 1 (actionNo a))
+action-patch d at {b} a h e = rw e (byte-patch d at (actionNo a) h (action-small a))
+
+-- A DECISION AT THE START OF AN ARRAY fills in its fields
+pub laid-decision : {e bytes : List ℕ} (z : List ℕ) (d : Decision) → bytes ≡ uncountedBytes d → e ≡ patched z 0 bytes → Laid z (decisionFields d) e
+unfolding uncountedBytes
+laid-decision {e} {bytes} z d is put = record { is = put ∙ rw is (patched-start z (packed (decisionFields d))) }
+
+-- AND WHAT STANDS AFTER IT, where a boundary is told
+pub laid-head : {d e alone head : List ℕ} (z : List ℕ) (b : Boundary) → alone ≡ uncountedBytes (b .decision) → head ≡ headBytes b
+    → d ≡ patched z 0 alone → e ≡ patched d 65 head → 65 ≤ length z → e ≡ filled (uncountedBytes (b .decision) ++ headBytes b) z
+unfolding uncountedBytes
+laid-head {d} {e} {alone} {head} z b is told first then room =
+    let size : 0 + length (uncountedBytes (b .decision)) ≡ 65 = rw (zero-add, length-packed) in
+    let join = rw size at (patch-join z 0 (uncountedBytes (b .decision)) (headBytes b) (omega arith)) in
+    rw (then, first, is, told) (join ∙ patched-start z _)

@@ -1,0 +1,3 @@
+-- Laws of the bytes that go into an answer.
+pub mod Bytes
+pub mod Rooms

@@ -1,6 +1,0 @@
--- Laws on faults, words and buffers that the proofs of the exported functions cite.
-pub mod Openings
-pub mod Places
-pub mod Handed
-pub mod Wordings
-pub mod Words

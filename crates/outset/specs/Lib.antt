@@ -1,2 +1,0 @@
--- What refuses a call.
-pub mod Refuse

@@ -1,0 +1,2 @@
+-- Numbers beside their widths, as code holds them.
+pub mod Beside

@@ -1,0 +1,193 @@
+// For other crates: sentences, each put into a buffer from a position on, which must leave room. None has more than 200 bytes.
+ghost use mathlib.Core.Path.{_≡_};
+ghost use mathlib.Core.List.{map, _++_};
+ghost use Prim.Native.Nat.{_+_, _-_, _%_, _≤_};
+ghost use lib.ListN.{length, take};
+ghost use Rattle.rules.specs.Limits.{ppm};
+ghost use Rattle.rules.specs.Numbers.{toldCost, toldEntry};
+ghost use Rattle.rules.specs.Text.{decimal};
+ghost use Rattle.rules.specs.Words.{sentence, percent, riseWords, latencyWords, costWords, priceWords, leverWords, leversWords};
+ghost use mathlib.Core.Option.{some};
+ghost use Rattle.splice.specs.Placed.{placed};
+ghost use Rattle.program_sentences.specs.Parts.{fallWords};
+use rules::BoundaryCost;
+use rules::Levers;
+use rules::Requirement;
+use rules::limits::PPM;
+use text::put_byte;
+use text::put_decimal;
+use text::put_text;
+
+// The rooms for levers in an answer.
+const LEVERS: usize = 4;
+
+// A number.
+fn put_number(out: &mut [u8], at: usize, n: u64) -> usize
+    requires { ⌜ at + 20 ≤ length (now out) ⌝ }
+    ensures { λ r. ⌜ some (r, now (out .exit)) ≡ placed (now (out .entry)) at (decimal n) ⌝ }
+    ensures { λ r. ⌜ r ≤ at + 20 ⌝ }
+{
+    put_decimal(out, at, n)
+}
+
+// Some words, a number, and more words.
+fn put_about(out: &mut [u8], at: usize, before: &[u8], n: u64, after: &[u8]) -> usize
+    requires { ⌜ at + (length (now before) + 20 + length (now after)) ≤ length (now out) ⌝ }
+    ensures { λ r. ⌜ some (r, now (out .exit)) ≡ placed (now (out .entry)) at (now (before .entry) ++ decimal n ++ now (after .entry)) ⌝ }
+    ensures { λ r. ⌜ r ≤ at + (length (now (before .entry)) + 20 + length (now (after .entry))) ⌝ }
+{
+    let number = put_text(out, at, before);
+    let next = put_number(out, number, n);
+    put_text(out, next, after)
+}
+
+// A sentence of them.
+pub fn put_remark(out: &mut [u8], at: usize, before: &[u8], n: u64, after: &[u8]) -> usize
+    requires { ⌜ at + (length (now before) + 21 + length (now after)) ≤ length (now out) ⌝ }
+    ensures { λ r. ⌜ some (r, now (out .exit)) ≡ placed (now (out .entry)) at (sentence (now (before .entry) ++ decimal n ++ now (after .entry))) ⌝ }
+    ensures { λ r. ⌜ r ≤ at + (length (now (before .entry)) + 21 + length (now (after .entry))) ⌝ }
+{
+    let end = put_about(out, at, before, n, after);
+    put_byte(out, end, b'\n')
+}
+
+// Quality and ceiling must rise.
+fn put_rise(out: &mut [u8], at: usize, name: &[u8], lever: Requirement) -> usize
+    requires { ⌜ at + (length (now name) + 120) ≤ length (now out) ⌝ }
+    ensures { λ r. ⌜ some (r, now (out .exit)) ≡ placed (now (out .entry)) at (riseWords (now (name .entry)) (toldEntry lever)) ⌝ }
+    ensures { λ r. ⌜ r ≤ at + (length (now (name .entry)) + 120) ⌝ }
+{
+    let middle = b" basis points today; it must rise to at least ";
+    let next = put_about(out, at, name, lever.current, middle);
+    let number = put_number(out, next, lever.boundary);
+    put_text(out, number, b".\n")
+}
+
+// The latency must fall.
+fn put_latency(out: &mut [u8], at: usize, lever: Requirement) -> usize
+    requires { ⌜ at + 120 ≤ length (now out) ⌝ }
+    ensures { λ r. ⌜ some (r, now (out .exit)) ≡ placed (now (out .entry)) at (latencyWords (toldEntry lever)) ⌝ }
+    ensures { λ r. ⌜ r ≤ at + 120 ⌝ }
+{
+    let middle = b" ms today; it must fall to at most ";
+    let next = put_about(out, at, b"Latency: ", lever.current, middle);
+    let number = put_number(out, next, lever.boundary);
+    put_text(out, number, b" ms.\n")
+}
+
+// The byte of a number's last digit.
+fn last_digit(n: u64) -> u8
+    ensures { λ r. ⌜ r ≡ 48 + n % 10 ⌝ }
+{
+    48 + (n % 10) as u8
+}
+
+// Millionths as percent.
+fn put_percent(out: &mut [u8], at: usize, n: u64) -> usize
+    requires { ⌜ at + 33 ≤ length (now out) ⌝ }
+    ensures { λ r. ⌜ some (r, now (out .exit)) ≡ placed (now (out .entry)) at (percent n) ⌝ }
+    ensures { λ r. ⌜ r ≤ at + 33 ⌝ }
+{
+    let digits = [
+        b'.',
+        last_digit(n / 1_000),
+        last_digit(n / 100),
+        last_digit(n / 10),
+        last_digit(n),
+    ];
+    let point = put_number(out, at, n / 10_000);
+    let next = put_text(out, point, &digits);
+    put_text(out, next, b" percent")
+}
+
+// By how much a price must fall to come to a share of today's.
+fn fall(boundary: u64) -> u64
+    ensures { λ r. ⌜ r ≡ ppm - boundary ⌝ }
+{
+    if PPM < boundary {
+        return 0;
+    }
+    PPM - boundary
+}
+
+// The price must fall: by how much, and to what.
+fn put_fall(out: &mut [u8], at: usize, boundary: u64) -> usize
+    requires { ⌜ at + 125 ≤ length (now out) ⌝ }
+    ensures { λ r. ⌜ some (r, now (out .exit)) ≡ placed (now (out .entry)) at (fallWords boundary) ⌝ }
+    ensures { λ r. ⌜ r ≤ at + 125 ⌝ }
+{
+    let named = put_text(
+        out,
+        at,
+        b"Price: 100 percent today; it must fall by at least ",
+    );
+    let next = put_percent(out, named, fall(boundary));
+    let share = put_text(out, next, b", to ");
+    put_percent(out, share, boundary)
+}
+
+// What the request then costs.
+fn put_then(out: &mut [u8], at: usize, cost: BoundaryCost) -> usize
+    requires { ⌜ at + 60 ≤ length (now out) ⌝ }
+    ensures { λ r. ⌜ some (r, now (out .exit)) ≡ placed (now (out .entry)) at (costWords (toldCost cost)) ⌝ }
+    ensures { λ r. ⌜ r ≤ at + 60 ⌝ }
+{
+    match cost {
+        BoundaryCost::Unpriced => put_text(out, at, b"."),
+        BoundaryCost::Microunits(c) => {
+            put_about(out, at, b"; the request then costs ", c, b" microunits.")
+        }
+    }
+}
+
+// The price must fall, and what the request then costs.
+fn put_price(out: &mut [u8], at: usize, lever: Requirement) -> usize
+    requires { ⌜ at + 186 ≤ length (now out) ⌝ }
+    ensures { λ r. ⌜ some (r, now (out .exit)) ≡ placed (now (out .entry)) at (priceWords (toldEntry lever)) ⌝ }
+    ensures { λ r. ⌜ r ≤ at + 186 ⌝ }
+{
+    let cost = lever.cost_at_boundary_microunits;
+    let next = put_fall(out, at, lever.boundary);
+    let end = put_then(out, next, cost);
+    put_byte(out, end, b'\n')
+}
+
+// The sentence of a lever of a model with an id.
+fn put_lever_words(out: &mut [u8], at: usize, id: u32, lever: Requirement) -> usize
+    requires { ⌜ at + 200 ≤ length (now out) ⌝ }
+    ensures { λ r. ⌜ some (r, now (out .exit)) ≡ placed (now (out .entry)) at (leverWords id (toldEntry lever)) ⌝ }
+    ensures { λ r. ⌜ r ≤ at + 200 ⌝ }
+{
+    if lever.lever == 1 {
+        return put_rise(out, at, b"Quality: ", lever);
+    }
+    if lever.lever == 2 {
+        return put_latency(out, at, lever);
+    }
+    if lever.lever == 3 {
+        return put_price(out, at, lever);
+    }
+    if lever.lever == 4 {
+        return put_rise(out, at, b"Risk ceiling: ", lever);
+    }
+    let after = b" is only switched off: switched on, it would be chosen.";
+    put_remark(out, at, b"Model ", id as u64, after)
+}
+
+// The sentences of an answer's first levers.
+pub fn put_levers_words(out: &mut [u8], at: usize, id: u32, levers: Levers) -> usize
+    requires { ⌜ at + 800 ≤ length (now out) ⌝ }
+    ensures { λ r. ⌜ some (r, now (out .exit)) ≡ placed (now (out .entry)) at (leversWords id (take (levers .count) (map toldEntry (levers .levers)))) ⌝ }
+{
+    let mut i = 0;
+    let mut next = at;
+    while i < LEVERS {
+        if levers.count <= i {
+            return next;
+        }
+        let lever = levers.levers[i];
+        next = put_lever_words(out, next, id, lever);
+        i += 1;
+    }
+    next
+}

@@ -1,0 +1,5 @@
+-- Laws of fields and of forms made of them, which callers cite.
+pub mod Buffers
+pub mod OneField
+pub mod Forms
+pub mod Lengths

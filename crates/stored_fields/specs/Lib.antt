@@ -1,0 +1,2 @@
+-- What the field reader tells.
+pub mod Fields

@@ -1,0 +1,127 @@
+// For other crates: fields, each a tag in one byte, the length of the body in two, the body. A field is read at the front of some bytes, once it
+// is seen to be whole there.
+ghost use mathlib.Core.Path.{_≡_};
+ghost use Prim.Native.Nat.{_+_, _≤_};
+ghost use lib.ListN.{length};
+ghost use Rattle.rules.specs.Refused.{firstFault, toldOutcome};
+ghost use Rattle.rules.specs.Limits.{fieldHeaderBytes};
+ghost use Rattle.rules.specs.Stored.{fits as fitsTag, fieldBytes, bodyOf, afterOf, formFaults};
+ghost use mathlib.Core.Option.{some};
+ghost use Rattle.splice.specs.Placed.{placed};
+ghost use Rattle.stored_fields.specs.Fields.{toldField, fieldOf, Whole};
+use endian::u16_at;
+use rules::Outcome;
+use rules::Refusal;
+use rules::limits::FIELD_HEADER_BYTES;
+use rules::limits::MAX_STORED_MODELS;
+use rules::limits::POLICY_BYTES;
+use rules::limits::STORED_RECORD_BYTES;
+use rules::limits::STORED_REQUEST_BYTES;
+use splice::put_bytes;
+
+pub const POLICY_TAG: u8 = 1;
+
+pub const BANK_TAG: u8 = 2;
+
+pub const REQUEST_TAG: u8 = 3;
+
+// What stands where a field is due.
+pub enum Field {
+    // A whole field, with a body of so many bytes after its header.
+    Body(usize),
+    Refused(Refusal),
+}
+
+// Whether a tag's body may have so many bytes.
+fn fits(tag: u8, n: usize) -> bool
+    ensures { λ r. ⌜ r ≡ fitsTag tag n ⌝ }
+{
+    if tag == POLICY_TAG {
+        return n == POLICY_BYTES;
+    }
+    if tag == BANK_TAG {
+        return n % STORED_RECORD_BYTES == 0 && n / STORED_RECORD_BYTES <= MAX_STORED_MODELS;
+    }
+    if tag == REQUEST_TAG {
+        return n == STORED_REQUEST_BYTES;
+    }
+    false
+}
+
+// The field with a tag at the front of some bytes. Refused: 21 where no byte stands there, 20 for a cut header, 21 for another tag, 22 for
+// a length that the tag doesn't have, 20 for a cut body.
+pub fn front_field(form: &[u8], tag: u8) -> Field
+    ensures { λ r. ⌜ toldField r ≡ fieldOf tag (now (form .entry)) ⌝ }
+{
+    if form.len() == 0 {
+        return Field::Refused(Refusal::WrongTag);
+    }
+    if form.len() < FIELD_HEADER_BYTES {
+        return Field::Refused(Refusal::CutShort);
+    }
+    if form[0] != tag {
+        return Field::Refused(Refusal::WrongTag);
+    }
+    let n = u16_at(form, 1) as usize;
+    if !fits(tag, n) {
+        return Field::Refused(Refusal::WrongLength);
+    }
+    if FIELD_HEADER_BYTES + n <= form.len() {
+        return Field::Body(n);
+    }
+    Field::Refused(Refusal::CutShort)
+}
+
+// Whether fields with these tags stand one after the other, then the end, and if not, why: at each field in its turn 20 for a cut
+// header, 21, 22, and 20 for a cut body; then 21 for any byte after the last one.
+pub fn lay_out(form: &[u8], tags: &[u8]) -> Outcome
+    ensures { λ r. ⌜ toldOutcome r ≡ firstFault (formFaults (now (tags .entry)) (now (form .entry))) ⌝ }
+{
+    let mut at = 0;
+    let mut i = 0;
+    while i < tags.len() {
+        let field = front_field(&form[at..], tags[i]);
+        let n = match field {
+            Field::Body(n) => n,
+            Field::Refused(refusal) => return Outcome::Refused(refusal),
+        };
+        at = at + (FIELD_HEADER_BYTES + n);
+        i += 1;
+    }
+    if at < form.len() {
+        return Outcome::Refused(Refusal::WrongTag);
+    }
+    Outcome::Answered
+}
+
+// The body of the whole field at the front of some bytes, as that very part of them.
+pub fn front_body(form: &[u8]) -> &[u8]
+    requires { ⌜ Whole (now form) ⌝ }
+    ensures { λ r. ⌜ now r ≡ bodyOf (now (form .entry)) ⌝ }
+{
+    let end = FIELD_HEADER_BYTES + u16_at(form, 1) as usize;
+    &form[FIELD_HEADER_BYTES..end]
+}
+
+// What stands after that field.
+pub fn after_front(form: &[u8]) -> &[u8]
+    requires { ⌜ Whole (now form) ⌝ }
+    ensures { λ r. ⌜ now r ≡ afterOf (now (form .entry)) ⌝ }
+{
+    let end = FIELD_HEADER_BYTES + u16_at(form, 1) as usize;
+    &form[end..]
+}
+
+// Puts a field into a buffer from a position on, and answers the position after it.
+pub fn put_field(out: &mut [u8], at: usize, tag: u8, body: &[u8]) -> usize
+    requires { ⌜ at + (fieldHeaderBytes + length (now body)) ≤ length (now out) ⌝ }
+    ensures { λ r. ⌜ some (r, now (out .exit)) ≡ placed (now (out .entry)) at (fieldBytes tag (now (body .entry))) ⌝ }
+{
+    let n = body.len();
+    let high = n / 256;
+    let header = [tag, (n % 256) as u8, (high % 256) as u8];
+    put_bytes(out, at, &header);
+    let next = at + FIELD_HEADER_BYTES;
+    put_bytes(out, next, body);
+    next + n
+}
