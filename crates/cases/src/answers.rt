@@ -4,10 +4,14 @@ ghost use lib.ListN.{length};
 use crate::marks::MARK;
 use crate::marks::REFUSED;
 use crate::marks::settled;
+use endian::u64_at;
 use program_report::ask_text;
 use program_report::unit_text;
 use program_words::ask_words;
 use rules::Written;
+use volankizo::volankizo_ask_text;
+use volankizo::volankizo_ask_words;
+use volankizo::volankizo_unit_text;
 
 // The printing calls, by their numbers; the third is `ask_words`.
 pub(crate) const CALLS: usize = 3;
@@ -20,6 +24,11 @@ pub(crate) const WORDS: u8 = 2;
 
 // More than any text has.
 pub(crate) const ROOM: usize = 900;
+
+// The library's buffer: a text's length in so many bytes, then the room.
+const LENGTH_BYTES: usize = 8;
+
+const LIBRARY_ROOM: usize = 908;
 
 // Stands for three rooms: more than enough, one byte less than enough, none.
 pub(crate) const EACH_ROOM: usize = 901;
@@ -59,7 +68,28 @@ fn answers_in(call: u8, input: &[u8], id: u32, text: &[u8], room: usize) -> bool
     settled(size, 0, &out, text, room)
 }
 
-// Whether a call prints a text, byte for byte, into each of three rooms.
+// The word of the library's function for a call.
+fn library_word(call: u8, input: &[u8], id: u32, out: &mut [u8]) -> u64 {
+    if call == UNIT {
+        return volankizo_unit_text(input, out);
+    }
+    if call == ASK {
+        return volankizo_ask_text(input, id, out);
+    }
+    volankizo_ask_words(input, id, out)
+}
+
+// Whether the library hands the same text over, with its length before it.
+fn library_answers(call: u8, input: &[u8], id: u32, text: &[u8]) -> bool {
+    let mut out = [MARK; LIBRARY_ROOM];
+    if library_word(call, input, id, &mut out) != 0 {
+        return false;
+    }
+    let size = u64_at(&out, 0) as usize;
+    settled(size, 0, &out[LENGTH_BYTES..LIBRARY_ROOM], text, ROOM)
+}
+
+// Whether a call prints a text, byte for byte, into each of three rooms, and the library hands it over.
 pub(crate) fn answers_each(call: u8, input: &[u8], id: u32, text: &[u8]) -> bool {
     let size = text.len();
     if size == 0 {
@@ -74,7 +104,10 @@ pub(crate) fn answers_each(call: u8, input: &[u8], id: u32, text: &[u8]) -> bool
     if !answers_in(call, input, id, text, size - 1) {
         return false;
     }
-    answers_in(call, input, id, text, 0)
+    if !answers_in(call, input, id, text, 0) {
+        return false;
+    }
+    library_answers(call, input, id, text)
 }
 
 // The same, or into so much room alone.
