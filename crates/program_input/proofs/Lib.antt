@@ -1,2 +1,3 @@
--- Laws of the programs' input, which callers cite.
+-- Laws of the programs' input, which callers cite, and rows on its size.
 pub mod Tests
+mod Sizes

@@ -1,7 +1,8 @@
--- Rows on the stored form, the request form, and what the programs print. Assumes nothing.
-use Rattle.rules.proofs.Kit.{ℕ, _*_, refl, List, [], _∷_, _++_, none, some, pos, negsuc, length, replicate, take}
+-- Rows on the stored form, the request form, and what the programs print. Those on the largest banks take long to compute and stand in `stored` and
+-- `program_input`, which are proved less often. Assumes nothing.
+use Rattle.rules.proofs.Kit.{ℕ, refl, List, [], _∷_, _++_, none, some, pos, negsuc, length, replicate, take}
 use Prim.Native.String.{String}
-use Rattle.rules.specs.{Bytes.bytesOf, Records.policyOf, Records.inputOf, Refused.Answer, Refused.refused, Refused.answered, Refused.fault}
+use Rattle.rules.specs.{Records.policyOf, Records.inputOf, Refused.Answer, Refused.refused, Refused.answered, Refused.fault}
 use Rattle.rules.specs.{Numbers.StoredPolicy, Stored.writeStoredOf, Stored.writeStoredBuffer, Stored.readStoredOf, Stored.readStoredBuffer}
 use Rattle.rules.specs.{Stored.writeRequestOf, Stored.writeRequestBuffer, Stored.readRequestOf, Text.text, Text.decimal, Printed.decisionLine}
 use Rattle.rules.specs.{Printed.countsLine, Printed.unitText, Printed.askText, Printed.printOf, Printed.printBuffer, Words.leversWords, Words.noneWords}
@@ -16,7 +17,7 @@ policyField = 1 ∷ 30 ∷ 0 ∷ policy
 abbrev bankField : List ℕ
 bankField = 2 ∷ 94 ∷ 0 ∷ bank
 
-abbrev requestField : List ℕ
+abbrev pub requestField : List ℕ
 requestField = 3 ∷ 70 ∷ 0 ∷ request
 
 abbrev form : List ℕ
@@ -83,7 +84,7 @@ requestRows =
 -- ---- what is printed
 
 -- a line of text
-abbrev is : String → List ℕ
+abbrev pub is : String → List ℕ
 is s = text s ++ (10 ∷ [])
 
 abbrev input : List ℕ
@@ -166,22 +167,4 @@ printedRows =
     ∷ says "no lever, in words" (noneWords 10) (is "No single change would make model 10 the choice.") refl
     ∷ says "0 in decimal" (decimal 0) (text "0") refl
     ∷ says "2 ^ 64 - 1 in decimal" (decimal 18446744073709551615) (text "18446744073709551615") refl
-    ∷ []
-
--- ---- sizes
-
--- so many records of zeros: written into no room, and in a program's input with a policy that is refused with 10
-abbrev noRoom : ℕ → Answer ℕ
-noRoom n = writeStoredOf (policyOf policy) (replicate (47 * n) 0) 0
-
-abbrev refusable : ℕ → List ℕ
-refusable n = (1 ∷ 30 ∷ 0 ∷ with 16 (17 ∷ 39 ∷ []) policy) ++ (2 ∷ bytesOf 2 (47 * n) ++ replicate (47 * n) 0) ++ requestField
-
-sizeRows : List Row
-unfolding rules
-sizeRows =
-    says "1,394 models and no room: 4" (noRoom 1394) (refused (fault 4)) refl
-    ∷ says "1,395 models: 18 before 4" (noRoom 1395) (refused (fault 18)) refl
-    ∷ says "900 models: validation" (unitText (refusable 900)) (is "refused 10") refl
-    ∷ says "901 models: 19 before validation" (unitText (refusable 901)) (is "refused 19") refl
     ∷ []

@@ -1,7 +1,8 @@
--- The laws of the two forms, and of the calls.
+-- The laws of the two forms, and of the calls, and rows on their size.
 pub mod Writing
 pub mod Reading
 pub mod Answers
 pub mod Trips
 pub mod FormTrips
 pub mod RoundTrips
+mod Sizes
