@@ -1,3 +1,2 @@
--- The laws of single records and of the calls, which callers cite.
-pub mod Singles
+-- The laws of the calls, which callers cite.
 pub mod Answers

@@ -1,7 +1,7 @@
--- `kernel::utility_at` meets its contract. Assumes nothing.
+-- `kernel_utility::utility_at` meets its contract. Assumes nothing.
 use Rattle.rules.proofs.Kit.{_∙_, needs}
-use Rattle.kernel.proofs.{Singles.only-room, Singles.only-worth, single.utility_at.Statement.statement}
-use Rattle.kernel.proofs.single.utility_at.Tie as tie
+use Rattle.kernel_utility.proofs.{Singles.only-room, Singles.only-worth, utility_at.Statement.statement}
+use Rattle.kernel_utility.proofs.utility_at.Tie as tie
 
 scan-on-requires : tie.Need-scan-on-requires
 scan-on-requires c κs =

@@ -1,4 +1,5 @@
-// The utility of one model. Its record is a part of a bank like any other, so a scan of that part says it.
+// For other crates: the utility of one model. Its record is a part of a bank like any other, so a scan of that part says it. Users have the
+// call from `kernel`, which passes it on.
 ghost use mathlib.Core.Path.{_≡_};
 ghost use Prim.Native.Nat.{_<_, _≤_};
 ghost use lib.ListN.{length};
@@ -7,7 +8,7 @@ ghost use Rattle.rules.specs.Records.{recordsIn, listedOf, modelAt};
 ghost use Rattle.rules.specs.Numbers.{toldUtility};
 ghost use Rattle.rules.specs.Verdict.{verdictOf};
 ghost use Rattle.rules.specs.Decide.{ifEligible, utilityIn, utilityForModelOf};
-ghost use Rattle.kernel.specs.Single.{worthFrom};
+ghost use Rattle.kernel_utility.specs.Single.{worthFrom};
 use call_checks::listing::first_listed;
 use call_checks::refuse::bank_outcome;
 use kernel_decide::stop::Stop;

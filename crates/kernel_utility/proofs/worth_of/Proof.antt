@@ -1,11 +1,11 @@
--- `kernel::worth_of` meets its contract. Assumes nothing.
+-- `kernel_utility::worth_of` meets its contract. Assumes nothing.
 use Rattle.rules.proofs.Kit.{sym, ap, _∙_, needs, w64}
 use mir.Facts.{toZ-ofZ}
 use Rattle.rules.specs.Refused.{answered}
 use Rattle.rules.proofs.Choices.{equal-yes, equal-no}
-use Rattle.kernel.specs.Single.{worthFrom}
-use Rattle.kernel.proofs.single.worth_of.Statement.{statement}
-use Rattle.kernel.proofs.single.worth_of.Tie as tie
+use Rattle.kernel_utility.specs.Single.{worthFrom}
+use Rattle.kernel_utility.proofs.worth_of.Statement.{statement}
+use Rattle.kernel_utility.proofs.worth_of.Tie as tie
 
 returns : tie.Need-returns
 unfolding worthFrom

@@ -7,7 +7,7 @@ use Rattle.rules.specs.{declared.records.KernelModel.KernelModel, declared.reco
 use Rattle.pricing.specs.{Pricing.pricingOf, declared.Pricing.Pricing}
 use Rattle.kernel_ranking.specs.{State.heldOf, State.topOf, State.stateOf, State.startOf, Verdict.scanOf, declared.state.State.State}
 use Rattle.kernel_scan.specs.{Scan.Room, Places.placedFrom}
-use Rattle.kernel.specs.Single.{worthFrom}
+use Rattle.kernel_utility.specs.Single.{worthFrom}
 use Rattle.kernel_scan.proofs.Places.{placed-one}
 use Rattle.kernel_ranking.proofs.{States.verdict-worth, States.run-start, Verdicts.scan-run}
 use Rattle.kernel_decide.proofs.Decisions.{score-back}

@@ -1,9 +1,9 @@
--- `kernel::utility_for_model` meets its contract. Assumes nothing.
+-- `kernel_utility::utility_for_model` meets its contract. Assumes nothing.
 use Rattle.rules.proofs.Kit.{sym, _∙_, needs}
 use Rattle.rules.specs.{Refused.refused, Decide.utilityForModelOf}
 use Rattle.rules.proofs.Faults.{unless-passed, unless-refused, bank-room}
-use Rattle.kernel.proofs.single.utility_for_model.Statement.{statement}
-use Rattle.kernel.proofs.single.utility_for_model.Tie as tie
+use Rattle.kernel_utility.proofs.utility_for_model.Statement.{statement}
+use Rattle.kernel_utility.proofs.utility_for_model.Tie as tie
 
 returns : tie.Need-returns
 unfolding utilityForModelOf

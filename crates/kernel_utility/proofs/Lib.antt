@@ -1,0 +1,2 @@
+-- The laws of a single record's utility.
+pub mod Singles
