@@ -7,7 +7,7 @@ use Rattle.kernel_ranking.specs.declared.state.Top.{Top}
 use Rattle.call_checks.proofs.Finding.{found-at}
 use Rattle.counterfactual_others.specs.Others.{topIn, othersOf}
 use Rattle.counterfactual_others.proofs.Offers.{others-offer}
-use Rattle.counterfactual_search.specs.{Asked.askedFrom, Asked.Stands, declared.pass.Asked.Asked}
+use Rattle.counterfactual_pass.specs.{Asked.askedFrom, Asked.Stands, declared.pass.Asked.Asked}
 use Rattle.counterfactual_answer.specs.Levers.{LeverRooms, emptyRoom, roomOf, boundaryWith}
 
 -- THE MODEL THAT WAS FOUND MAY BE ASKED ABOUT, where the request isn't stopped: its rival is the best of the others

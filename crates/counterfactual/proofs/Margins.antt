@@ -6,7 +6,7 @@ use Rattle.rules.specs.{Margin.marginIn, declared.records.KernelInput.KernelInp
 use Rattle.rules.proofs.Stopped.{not-stopped}
 use Rattle.kernel_ranking.specs.declared.state.Top.{Top}
 use Rattle.call_checks.proofs.Finding.{found-at, found-nothing}
-use Rattle.counterfactual_search.specs.{Asked.askedFrom, Asked.questionIn, declared.pass.Asked.Asked}
+use Rattle.counterfactual_pass.specs.{Asked.askedFrom, Asked.questionIn, declared.pass.Asked.Asked}
 
 module _ (p : PolicySnapshot) (q : KernelInput) (bank : List ℕ) {d : Decision} (decided : d ≡ decisionOf p q (listedOf bank)) where
   -- A REJECTION HAS NO MARGIN

@@ -8,7 +8,7 @@ use Rattle.kernel_ranking.specs.declared.state.Top.{Top}
 use Rattle.kernel_decide.specs.{Stop.toldStop, declared.stop.Stop.Stop, declared.stop.Stop.the-variants.Open, declared.stop.Stop.the-variants.By}
 use Rattle.call_checks.proofs.Finding.{found-at, found-nothing}
 use Rattle.kernel_decide.proofs.Stops.{open-free, by-high}
-use Rattle.counterfactual_search.specs.{Asked.askedFrom, Asked.questionIn, declared.pass.Asked.Asked}
+use Rattle.counterfactual_pass.specs.{Asked.askedFrom, Asked.questionIn, declared.pass.Asked.Asked}
 use Rattle.counterfactual_answer.specs.Levers.{LeverRooms, emptyRoom, pushed, roomOf}
 
 -- ---- what is searched

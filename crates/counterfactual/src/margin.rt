@@ -8,7 +8,7 @@ use counterfactual_answer::answer::answered;
 use counterfactual_answer::answer::refused;
 use counterfactual_four_levers::margin::margin_levers;
 use counterfactual_others::open::opened;
-use counterfactual_search::pass::asked_at;
+use counterfactual_pass::pass::asked_at;
 use rules::Boundaries;
 use rules::Found;
 use rules::KernelInput;

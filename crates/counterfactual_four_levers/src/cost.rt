@@ -1,10 +1,10 @@
 // The price's cost, which both answers tell. It alone needs a decision over the bank, so it stands apart from the noting of the levers.
 ghost use mathlib.Core.Path.{_≡_};
-ghost use Rattle.counterfactual_search.specs.Asked.{questionIn, Stands};
+ghost use Rattle.counterfactual_pass.specs.Asked.{questionIn, Stands};
 ghost use Rattle.counterfactual_answer.specs.Levers.{costAt};
 use counterfactual_lever::PRICE_SCALE_PPM;
-use counterfactual_search::pass::Asked;
-use counterfactual_search::pass::decision_at;
+use counterfactual_pass::pass::Asked;
+use counterfactual_pass::pass::decision_at;
 use rules::Bound;
 
 // What the decision at the price's boundary costs: a pass of its own, over the bank. 0 where there is no boundary.

@@ -1,7 +1,7 @@
 // The levers of the model that was selected, each searched for how far it can move before it isn't.
 ghost use mathlib.Core.Path.{_≡_};
 ghost use Rattle.rules.specs.Margin.{marginLevers};
-ghost use Rattle.counterfactual_search.specs.Asked.{questionIn, Stands};
+ghost use Rattle.counterfactual_pass.specs.Asked.{questionIn, Stands};
 ghost use Rattle.counterfactual_answer.specs.Levers.{toldLevers, roomOf};
 use crate::cost::price_cost;
 use counterfactual_answer::levers::four_levers;
@@ -9,12 +9,12 @@ use counterfactual_lever::P95_LATENCY_MS;
 use counterfactual_lever::PRICE_SCALE_PPM;
 use counterfactual_lever::QUALITY_BPS;
 use counterfactual_lever::RISK_CEILING_BPS;
+use counterfactual_pass::held::held_of;
+use counterfactual_pass::held::model_held;
+use counterfactual_pass::held::request_held;
+use counterfactual_pass::pass::Asked;
 use counterfactual_search::far::highest_below;
 use counterfactual_search::far::lowest_above;
-use counterfactual_search::held::held_of;
-use counterfactual_search::held::model_held;
-use counterfactual_search::held::request_held;
-use counterfactual_search::pass::Asked;
 use counterfactual_search::search::lowest_true;
 use rules::Levers;
 use rules::limits::MAX_PRICE_SCALE_PPM;

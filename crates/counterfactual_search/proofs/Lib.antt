@@ -1,5 +1,3 @@
--- The laws of a pass, by the bank and by what the others offer, and of what a search and its halving come to, which callers cite.
-pub mod Varied
-pub mod Passes
+-- The laws of what a search and its halving come to, which callers cite.
 pub mod Searches
 pub mod Halves

@@ -1,4 +1,2 @@
--- What is asked, what a halving holds of it, and what a search goes over.
-pub mod Asked
-pub mod Held
+-- What a search goes over.
 pub mod Search

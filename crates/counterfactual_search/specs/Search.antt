@@ -5,7 +5,7 @@ use mathlib.Core.List.{List}
 use Rattle.rules.specs.Halving.{Side, Lowest, Highest, Halved}
 use Rattle.pricing.specs.Pricing.{Settled}
 use Rattle.counterfactual_lever.specs.Lever.{widest}
-use Rattle.counterfactual_search.specs.Held.{pricingIn}
+use Rattle.counterfactual_pass.specs.Held.{pricingIn}
 
 -- P3, P4. Which value is looked for
 abbrev pub sideOf : Bool → Side

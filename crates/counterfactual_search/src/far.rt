@@ -2,13 +2,13 @@
 ghost use mathlib.Core.Path.{_≡_};
 ghost use Prim.Native.Nat.{_+_, _<_, _≤_, _^_};
 ghost use Rattle.rules.specs.Halving.{Lowest, Highest, farEnd, passesOf, laterBy, searchAfterFarEnd};
-ghost use Rattle.counterfactual_search.specs.Held.{winsOn};
+ghost use Rattle.counterfactual_pass.specs.Held.{winsOn};
 ghost use Rattle.counterfactual_search.specs.Search.{sideOf, Over};
-use crate::held::Held;
-use crate::held::wins_on;
 use crate::search::HIGHEST;
 use crate::search::LOWEST;
 use crate::search::searched;
+use counterfactual_pass::held::Held;
+use counterfactual_pass::held::wins_on;
 use rules::Bound;
 use rules::limits::ModelBytes;
 use rules::limits::RequestBytes;

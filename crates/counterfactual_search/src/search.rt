@@ -3,10 +3,10 @@
 ghost use mathlib.Core.Path.{_≡_};
 ghost use Prim.Native.Nat.{_+_, _<_, _≤_, _^_};
 ghost use Rattle.rules.specs.Halving.{Lowest, Highest, firstTried, middle, keptLow, keptHigh, halve, searchOf};
-ghost use Rattle.counterfactual_search.specs.Held.{winsOn};
+ghost use Rattle.counterfactual_pass.specs.Held.{winsOn};
 ghost use Rattle.counterfactual_search.specs.Search.{sideOf, inOne, Over};
-use crate::held::Held;
-use crate::held::wins_on;
+use counterfactual_pass::held::Held;
+use counterfactual_pass::held::wins_on;
 use rules::Bound;
 use rules::limits::ModelBytes;
 use rules::limits::RequestBytes;

@@ -14,7 +14,7 @@ ghost use Rattle.program_report.specs.Sizes.{wordsBytes};
 use bank::unchecked::model_at;
 use call_checks::listing::first_listed;
 use counterfactual::what_would_win;
-use counterfactual_search::pass::selected;
+use counterfactual_pass::pass::selected;
 use program_input::bank_in;
 use program_input::policy_in;
 use program_input::request_in;

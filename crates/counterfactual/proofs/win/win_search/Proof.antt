@@ -2,8 +2,8 @@
 use Rattle.rules.proofs.Kit.{needs, arith, sym, ap, _∙_}
 use Rattle.rules.specs.Choice.{equal}
 use Rattle.counterfactual_lever.specs.Lever.{widest}
-use Rattle.counterfactual_search.specs.Asked.{questionIn}
-use Rattle.counterfactual_search.proofs.Passes.{wins-so}
+use Rattle.counterfactual_pass.specs.Asked.{questionIn}
+use Rattle.counterfactual_pass.proofs.Passes.{wins-so}
 use Rattle.counterfactual_answer.specs.Levers.{roomOf}
 use Rattle.counterfactual.proofs.{Wins.search-on, Wins.search-off, Wins.off-found, Wins.off-lost, win.win_search.Statement.statement}
 use Rattle.counterfactual.proofs.win.win_search.Tie as tie

@@ -2,8 +2,8 @@
 use Rattle.rules.proofs.Kit.{needs, arith}
 use Rattle.rules.specs.{Choice.equal, Halving.Lowest, Halving.Highest, Margin.marginLevers}
 use Rattle.counterfactual_lever.specs.Lever.{widest}
-use Rattle.counterfactual_search.specs.Asked.{questionIn}
-use Rattle.counterfactual_search.proofs.{Passes.searched-so, Passes.after-so, Searches.search-few, Searches.far-few}
+use Rattle.counterfactual_pass.specs.Asked.{questionIn}
+use Rattle.counterfactual_search.proofs.Searches.{searched-so, after-so, search-few, far-few}
 use Rattle.counterfactual_answer.proofs.Notes.{four-sought}
 use Rattle.counterfactual_four_levers.proofs.margin.margin_levers.Statement.{statement}
 use Rattle.counterfactual_four_levers.proofs.margin.margin_levers.Tie as tie

@@ -2,8 +2,8 @@
 use Rattle.rules.proofs.Kit.{needs, _≤_, arith}
 use Rattle.rules.specs.{Choice.equal, Halving.Lowest, Halving.Highest, Halving.passesOf, Win.winLevers}
 use Rattle.counterfactual_lever.specs.Lever.{widest}
-use Rattle.counterfactual_search.specs.Asked.{questionIn}
-use Rattle.counterfactual_search.proofs.{Passes.searched-so, Searches.search-few}
+use Rattle.counterfactual_pass.specs.Asked.{questionIn}
+use Rattle.counterfactual_search.proofs.Searches.{searched-so, search-few}
 use Rattle.counterfactual_answer.proofs.Notes.{four-sought}
 use Rattle.counterfactual_four_levers.proofs.win.win_levers.Statement.{statement}
 use Rattle.counterfactual_four_levers.proofs.win.win_levers.Tie as tie

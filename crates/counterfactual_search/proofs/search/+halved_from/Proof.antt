@@ -8,7 +8,7 @@ use Rattle.counterfactual_search.proofs.{search.+halved_from.statement,
 use Rattle.counterfactual_search.proofs.search.halved_from.Reads as reads
 use Rattle.counterfactual_search.proofs.search.halved_from.Kinds as kinds
 use Rattle.counterfactual_search.proofs.search.+halved_from.Lts-halved_from as lts
-use Rattle.counterfactual_search.proofs.held.wins_on.Reads as wins-on-reads
+use Rattle.counterfactual_pass.proofs.held.wins_on.Reads as wins-on-reads
 use Rattle.counterfactual_search.proofs.search.kept_high.Reads as kept-high-reads
 use Rattle.counterfactual_search.proofs.search.kept_low.Reads as kept-low-reads
 use Rattle.counterfactual_search.proofs.search.middle.Reads as middle-reads

@@ -1,8 +1,8 @@
--- `counterfactual_search::decision_at` meets its contract. Assumes nothing.
+-- `counterfactual_pass::decision_at` meets its contract. Assumes nothing.
 use Rattle.rules.proofs.Kit.{sym, ap, _∙_, needs}
 use Rattle.rules.specs.Numbers.{toldPrescribed}
-use Rattle.counterfactual_search.proofs.{Passes.pass-answers, Passes.pass-decides, pass.decision_at.Statement.statement}
-use Rattle.counterfactual_search.proofs.pass.decision_at.Tie as tie
+use Rattle.counterfactual_pass.proofs.{Passes.pass-answers, Passes.pass-decides, pass.decision_at.Statement.statement}
+use Rattle.counterfactual_pass.proofs.pass.decision_at.Tie as tie
 
 returns : tie.Need-returns
 returns c =

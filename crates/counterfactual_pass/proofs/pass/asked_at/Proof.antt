@@ -1,7 +1,7 @@
--- `counterfactual_search::asked_at` meets its contract. Assumes nothing.
+-- `counterfactual_pass::asked_at` meets its contract. Assumes nothing.
 use Rattle.rules.proofs.Kit.{needs}
-use Rattle.counterfactual_search.proofs.pass.asked_at.Statement.{statement}
-use Rattle.counterfactual_search.proofs.pass.asked_at.Tie as tie
+use Rattle.counterfactual_pass.proofs.pass.asked_at.Statement.{statement}
+use Rattle.counterfactual_pass.proofs.pass.asked_at.Tie as tie
 
 returns : tie.Need-returns
 returns c = rw (c .others-best .ensures, c .before .model-at .ensures)

@@ -1,8 +1,8 @@
--- `counterfactual_search::wins_on` meets its contract. Assumes nothing.
+-- `counterfactual_pass::wins_on` meets its contract. Assumes nothing.
 use Rattle.rules.proofs.Kit.{_∙_, needs}
-use Rattle.counterfactual_search.specs.{Asked.winsBy, Held.winsOn}
-use Rattle.counterfactual_search.proofs.held.wins_on.Statement.{statement}
-use Rattle.counterfactual_search.proofs.held.wins_on.Tie as tie
+use Rattle.counterfactual_pass.specs.{Asked.winsBy, Held.winsOn}
+use Rattle.counterfactual_pass.proofs.held.wins_on.Statement.{statement}
+use Rattle.counterfactual_pass.proofs.held.wins_on.Tie as tie
 
 best-with-requires : tie.Need-best-with-requires
 best-with-requires c κs =

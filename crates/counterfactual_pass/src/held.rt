@@ -5,7 +5,7 @@ ghost use Prim.Native.Nat.{_≤_};
 ghost use Rattle.rules.specs.Records.{modelOf, inputOf};
 ghost use Rattle.pricing.specs.Pricing.{Settled, pricingOf};
 ghost use Rattle.counterfactual_lever.specs.Lever.{widest};
-ghost use Rattle.counterfactual_search.specs.Held.{placeIn, idIn, rivalIn, pricingIn, winsOn};
+ghost use Rattle.counterfactual_pass.specs.Held.{placeIn, idIn, rivalIn, pricingIn, winsOn};
 use crate::pass::Asked;
 use bank::input_from;
 use bank::model_from;

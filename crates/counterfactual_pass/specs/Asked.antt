@@ -18,7 +18,7 @@ use Rattle.kernel_ranking.specs.declared.state.Candidate.{Candidate}
 use Rattle.kernel_ranking.specs.declared.state.Top.{Top}
 use Rattle.counterfactual_others.specs.Others.{withoutPlace, bestOf, othersOf, bestWith, hasId}
 use Rattle.counterfactual_lever.specs.Lever.{widest}
-use Rattle.counterfactual_search.specs.declared.pass.Asked.{Asked}
+use Rattle.counterfactual_pass.specs.declared.pass.Asked.{Asked}
 
 -- The model at a place of a bank, asked about under an id, with what the others offer by the best two of all
 abbrev pub askedFrom : PolicySnapshot → KernelInput → List ℕ → ℕ → ℕ → Top → Asked

@@ -7,7 +7,7 @@ ghost use Rattle.rules.specs.Records.{recordsIn};
 ghost use Rattle.rules.specs.Numbers.{toldDecision};
 ghost use Rattle.rules.specs.Levers.{selects, decisionAt};
 ghost use Rattle.counterfactual_lever.specs.Lever.{widest};
-ghost use Rattle.counterfactual_search.specs.Asked.{askedFrom, questionIn, winsIn, Asks};
+ghost use Rattle.counterfactual_pass.specs.Asked.{askedFrom, questionIn, winsIn, Asks};
 use bank::unchecked::model_at;
 use counterfactual_lever::lever_at;
 use counterfactual_others::rival::best_with;

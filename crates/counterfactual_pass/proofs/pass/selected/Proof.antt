@@ -1,8 +1,8 @@
--- `counterfactual_search::selected` meets its contract. Assumes nothing.
+-- `counterfactual_pass::selected` meets its contract. Assumes nothing.
 use Rattle.rules.proofs.Kit.{needs, sym, _∙_}
 use Rattle.rules.specs.Levers.{selects}
-use Rattle.counterfactual_search.proofs.pass.selected.Statement.{statement}
-use Rattle.counterfactual_search.proofs.pass.selected.Tie as tie
+use Rattle.counterfactual_pass.proofs.pass.selected.Statement.{statement}
+use Rattle.counterfactual_pass.proofs.pass.selected.Tie as tie
 
 returns : tie.Need-returns
 unfolding selects

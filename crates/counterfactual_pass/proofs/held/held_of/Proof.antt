@@ -1,7 +1,7 @@
--- `counterfactual_search::held_of` meets its contract. Assumes nothing.
+-- `counterfactual_pass::held_of` meets its contract. Assumes nothing.
 use Rattle.rules.proofs.Kit.{_∙_, needs}
-use Rattle.counterfactual_search.proofs.held.held_of.Statement.{statement}
-use Rattle.counterfactual_search.proofs.held.held_of.Tie as tie
+use Rattle.counterfactual_pass.proofs.held.held_of.Statement.{statement}
+use Rattle.counterfactual_pass.proofs.held.held_of.Tie as tie
 
 returns : tie.Need-returns
 returns c =

@@ -1,7 +1,7 @@
--- `counterfactual_search::held_numbers` meets its contract: a candidate's numbers fit their fields. Assumes nothing.
+-- `counterfactual_pass::held_numbers` meets its contract: a candidate's numbers fit their fields. Assumes nothing.
 use Rattle.rules.proofs.Kit.{_%_, _^_, _≡_, arith, needs}
-use Rattle.counterfactual_search.proofs.held.held_numbers.Statement.{statement}
-use Rattle.counterfactual_search.proofs.held.held_numbers.Tie as tie
+use Rattle.counterfactual_pass.proofs.held.held_numbers.Statement.{statement}
+use Rattle.counterfactual_pass.proofs.held.held_numbers.Tie as tie
 
 returns : tie.Need-returns
 returns c =

@@ -2,14 +2,14 @@
 -- lent bank. Assumes nothing.
 use Rattle.rules.proofs.Kit.{ℕ, _<_, _≡_, sym, ap, _∙_, Bool, List, arith, length, set}
 use Rattle.rules.specs.{Records.listed, Records.listedOf, Records.recordsIn, Records.modelOf, Records.inputOf, Refused.Fault, Refused.refused, Refused.answered}
-use Rattle.rules.specs.{Numbers.Decision, Decide.decisionOf, Halving.Side, Halving.searchOf, Halving.searchAfterFarEnd, Levers.leverAt, Levers.selects}
-use Rattle.rules.specs.{Levers.decisionAt, Levers.wins, View.withModel, View.viewOf, declared.records.KernelModel.KernelModel, declared.boundary.Bound.Bound}
+use Rattle.rules.specs.{Numbers.Decision, Decide.decisionOf, Levers.leverAt, Levers.selects, Levers.decisionAt, Levers.wins, View.withModel, View.viewOf}
+use Rattle.rules.specs.{declared.records.KernelModel.KernelModel}
 use Rattle.call_checks.proofs.Finding.{found-at}
 use Rattle.counterfactual_others.proofs.Offers.{selects-by-others}
-use Rattle.counterfactual_search.specs.{Asked.winsBy, Asked.winsIn, Asked.questionIn, Asked.Stands, Held.placeIn, Held.idIn, Held.rivalIn, Held.pricingIn}
-use Rattle.counterfactual_search.specs.{Held.winsOn, declared.pass.Asked.Asked}
+use Rattle.counterfactual_pass.specs.{Asked.winsBy, Asked.winsIn, Asked.questionIn, Asked.Stands, Held.placeIn, Held.idIn, Held.rivalIn, Held.pricingIn}
+use Rattle.counterfactual_pass.specs.{Held.winsOn, declared.pass.Asked.Asked}
 use Rattle.pricing.specs.Pricing.{Settled, pricingOf}
-use Rattle.counterfactual_search.proofs.Varied.{varied-at}
+use Rattle.counterfactual_pass.proofs.Varied.{varied-at}
 
 module _ (k : Asked) (bank : List ℕ) (stands : Stands k bank) where
   inside : k .place < recordsIn (length bank)
@@ -40,16 +40,8 @@ module _ (k : Asked) (bank : List ℕ) (stands : Stands k bank) where
     held-at lever v = λ i. winsBy (says .3 i) (eq i) (em i) (says .0 i) (says .1 i) (says .2 i) lever v
 
     -- so that a search over the one is a search over the other
-    same-test : (lever : ℕ) → winsOn request varied ns lever ≡ wins (questionIn k bank) lever
+    pub same-test : (lever : ℕ) → winsOn request varied ns lever ≡ wins (questionIn k bank) lever
     same-test lever = λ i v. (held-at lever v ∙ wins-at-value lever v) i
-
-    pub searched-so : (s : Side) (lever low high : ℕ) {r : Bound} → r ≡ searchOf s (winsOn request varied ns lever) low high
-        → r ≡ searchOf s (wins (questionIn k bank) lever) low high
-    searched-so s lever low high e = e ∙ ap (λ t. searchOf s t low high) (same-test lever)
-
-    pub after-so : (s : Side) (lever low high : ℕ) {r : Bound} → r ≡ searchAfterFarEnd s (winsOn request varied ns lever) low high
-        → r ≡ searchAfterFarEnd s (wins (questionIn k bank) lever) low high
-    after-so s lever low high e = e ∙ ap (λ t. searchAfterFarEnd s t low high) (same-test lever)
 
   -- ---- the decision over the bank
 

@@ -1,9 +1,9 @@
--- `counterfactual_search::request_held` meets its contract: a request's numbers fit their fields. Assumes nothing.
+-- `counterfactual_pass::request_held` meets its contract: a request's numbers fit their fields. Assumes nothing.
 use Rattle.rules.proofs.Kit.{_<_, _^_, arith, ap, _∙_, ℤ, pos, negsuc, w64, ofZ, SFits, needs}
 use Rattle.rules.specs.Records.{inputFields, inputOf}
 use Rattle.packing.proofs.{Layouts.Fitting, Trips.input-back}
-use Rattle.counterfactual_search.proofs.held.request_held.Statement.{statement}
-use Rattle.counterfactual_search.proofs.held.request_held.Tie as tie
+use Rattle.counterfactual_pass.proofs.held.request_held.Statement.{statement}
+use Rattle.counterfactual_pass.proofs.held.request_held.Tie as tie
 
 bits-fit : (z : ℤ) → SFits w64 z → ofZ w64 z < 2 ^ 64
 bits-fit (pos n) h = omega arith

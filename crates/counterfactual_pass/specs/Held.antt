@@ -6,7 +6,7 @@ use lib.ListN.{getD}
 use Rattle.rules.specs.Records.{modelOf, inputOf}
 use Rattle.pricing.specs.declared.Pricing.{Pricing}
 use Rattle.kernel_ranking.specs.declared.state.Candidate.{Candidate}
-use Rattle.counterfactual_search.specs.Asked.{winsBy}
+use Rattle.counterfactual_pass.specs.Asked.{winsBy}
 
 -- The place and the id of the model that is varied, the best of the others, and what is settled, as thirteen numbers say them
 abbrev pub placeIn : List ℕ → ℕ

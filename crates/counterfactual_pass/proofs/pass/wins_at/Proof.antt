@@ -1,8 +1,8 @@
--- `counterfactual_search::wins_at` meets its contract. Assumes nothing.
+-- `counterfactual_pass::wins_at` meets its contract. Assumes nothing.
 use Rattle.rules.proofs.Kit.{_∙_, needs}
-use Rattle.counterfactual_search.specs.Asked.{winsBy, winsIn}
-use Rattle.counterfactual_search.proofs.pass.wins_at.Statement.{statement}
-use Rattle.counterfactual_search.proofs.pass.wins_at.Tie as tie
+use Rattle.counterfactual_pass.specs.Asked.{winsBy, winsIn}
+use Rattle.counterfactual_pass.proofs.pass.wins_at.Statement.{statement}
+use Rattle.counterfactual_pass.proofs.pass.wins_at.Tie as tie
 
 returns : tie.Need-returns
 unfolding winsIn winsBy

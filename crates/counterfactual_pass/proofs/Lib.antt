@@ -1,0 +1,3 @@
+-- The laws of a pass, by the bank and by what the others offer, which callers cite.
+pub mod Varied
+pub mod Passes

@@ -1,0 +1,3 @@
+-- What is asked, and what a halving holds of it.
+pub mod Asked
+pub mod Held
