@@ -9,13 +9,13 @@ use contract.Monad.{Fun, fact, factI}
 use types.Kit.{Given, ⋆, _$_, _∵_, !, qed, join, fjoin, frame, done}
 use denote.{Laws.Is, Steps.owned, Steps.nothing, Triple.Statement.Contract, Triple.Spec.tripleOf, Triple.Clauses.ensured, Triple.Clauses.lasts}
 use Rattle.rules.specs.{declared.records.KernelInput.KernelInput, declared.decision.KernelDecision.KernelDecision, declared.refusal.Outcome.Outcome}
-use Rattle.batch.specs.Refuse.{refuses}
+use Rattle.batch_checks.specs.Refuse.{refuses}
 use denote.Enum.Laws as EL
 use Rattle.rules.specs.declared.decision.KernelAction.the-variants as action
 use Rattle.rules.specs.declared.decision.KernelReason.the-variants as reason
 use Rattle.rules.proofs.refusal.Outcome as R
 use Rattle.rules.proofs.refusal.Outcome.Laws as R′
-use Rattle.batch.proofs.refuse.is_refused as is-refused
+use Rattle.batch_checks.proofs.is_refused as is-refused
 
 pub is-true : (y : Bool) → T y → y ≡ true
 is-true true h = refl

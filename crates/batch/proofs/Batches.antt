@@ -7,7 +7,7 @@ use Rattle.rules.specs.{Batch.batchCheckedOf, Batch.batchCheckedRow, declared.r
 use Rattle.rules.specs.{declared.decision.KernelDecision.KernelDecision, declared.refusal.Outcome.Outcome, declared.refusal.Outcome.the-variants.Answered}
 use Rattle.rules.specs.{declared.refusal.Outcome.the-variants.Refused}
 use Rattle.rules.proofs.Faults.{none-after, none-told, unless-refused, joined-told, room-passed, checked-room}
-use Rattle.batch.specs.Refuse.{refuses}
+use Rattle.batch_checks.specs.Refuse.{refuses}
 use Rattle.batch.proofs.{Filling.at-last, Filling.after, Testing.not-refused, Testing.else-refused}
 
 -- ---- any tests, and a row

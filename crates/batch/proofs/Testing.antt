@@ -5,7 +5,7 @@ use Rattle.rules.specs.{Refused.Fault, Refused.Faults, Refused.firstFault, Refu
 use Rattle.rules.specs.{declared.records.KernelInput.KernelInput, declared.refusal.Outcome.Outcome, declared.refusal.Outcome.the-variants.Answered}
 use Rattle.rules.specs.{declared.refusal.Outcome.the-variants.Refused}
 use Rattle.rules.proofs.Faults.{none-told, append-refused}
-use Rattle.batch.specs.Refuse.{refuses}
+use Rattle.batch_checks.specs.Refuse.{refuses}
 
 -- An outcome that is no refusal is an answer
 pub not-refused : (o : Outcome) → refuses o ≡ false → o ≡ Answered

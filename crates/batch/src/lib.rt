@@ -1,16 +1,14 @@
 // A batch: the caller's row of requests, and the caller's row of decisions, which is filled from its start. The functions here are those
 // that touch a row of structs, each a thin one; the tests and the decision are functions of their own.
-mod refuse;
-
 ghost use mathlib.Core.Path.{_≡_};
 ghost use mathlib.Core.List.{map};
 ghost use lib.ListN.{length};
 ghost use Rattle.rules.specs.Refused.{toldOutcome, firstFault};
 ghost use Rattle.rules.specs.Numbers.{toldDecision};
 ghost use Rattle.rules.specs.Batch.{requestsFaults, batchOf, batchRow, batchCheckedOf, batchCheckedRow};
-use crate::refuse::batch_outcome;
-use crate::refuse::checked_batch_outcome;
-use crate::refuse::is_refused;
+use batch_checks::batch_outcome;
+use batch_checks::checked_batch_outcome;
+use batch_checks::is_refused;
 use call_checks::refuse::input_outcome;
 use kernel_decide::decide::decide;
 use rules::KernelDecision;

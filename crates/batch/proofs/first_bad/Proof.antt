@@ -27,11 +27,11 @@ use denote.{Exit.yes, Triple.Clauses.ensured}
 use Rattle.rules.specs.{Refused.firstFault, declared.records.KernelInput.KernelInput, declared.refusal.Outcome.Outcome}
 use Rattle.rules.specs.{declared.refusal.Outcome.the-variants.Answered}
 use Rattle.call_checks.proofs.refuse.input_outcome.Symbol.{name as #kernel·input-outcome}
-use Rattle.batch.specs.Refuse.{refuses}
+use Rattle.batch_checks.specs.Refuse.{refuses}
+use Rattle.batch_checks.proofs.is_refused.Symbol.{name as #batch·is-refused}
 use Rattle.batch.proofs.{Testing.bad-none, Testing.bad-here, Asking.is-true, Asking.is-false, Asking.noRequest, Asking.Asked, Asking.to-asked}
-use Rattle.batch.proofs.{Asking.goes-asked, Asking.asked-said, refuse.is_refused.Symbol.name as #batch·is-refused}
-use Rattle.batch.proofs.{first_bad.Key.name as #batch·first-bad, first_bad.Code.Mir.turn-1, first_bad.Code.Mir.t-4, Handed.Qsize, Handed.word}
-use Rattle.batch.proofs.{Handed.reqs-ty, Handed.Shared}
+use Rattle.batch.proofs.{Asking.goes-asked, Asking.asked-said, first_bad.Key.name as #batch·first-bad, first_bad.Code.Mir.turn-1, first_bad.Code.Mir.t-4}
+use Rattle.batch.proofs.{Handed.Qsize, Handed.word, Handed.reqs-ty, Handed.Shared}
 use Frame.{stayed, Told, none-is, Lent, n, rq, v, OwnReqs, State, Nearer, Nearer-wf, start, next, nearer, i-fits, next-fits, Tested, to, goes, said-of, Post}
 use Frame.{exits}
 use denote.Enum.Laws as EL
@@ -43,9 +43,9 @@ use Rattle.rules.proofs.refusal.Outcome.Laws as R′
 use Rattle.call_checks.proofs.refuse.input_outcome as input-outcome
 use Rattle.call_checks.proofs.refuse.input_outcome.Symbol as input-outcome-def
 use Rattle.call_checks.proofs.refuse.input_outcome.Met as input-outcome-thm
-use Rattle.batch.proofs.refuse.is_refused as is-refused
-use Rattle.batch.proofs.refuse.is_refused.Symbol as is-refused-def
-use Rattle.batch.proofs.refuse.is_refused.Met as is-refused-thm
+use Rattle.batch_checks.proofs.is_refused as is-refused
+use Rattle.batch_checks.proofs.is_refused.Symbol as is-refused-def
+use Rattle.batch_checks.proofs.is_refused.Met as is-refused-thm
 use Rattle.batch.proofs.first_bad as this
 use Rattle.batch.proofs.first_bad.Statement as stated
 use Rattle.batch.proofs.first_bad.Code as code
@@ -221,5 +221,5 @@ first-bad-spec 𝓤 H 𝓜 𝓖 𝓡 =
     (first-bad-meets 𝓤 H (𝓖 .A) (givenOf 𝓤 H 𝓜 𝓖) (𝓜 .mem) (𝓡 .run) (tablesOf 𝓤 H 𝓜 (tables 𝓤 H 𝓜 𝓡 code.env))
     (cited 𝓤 H (Tested 𝓤 H (𝓖 .A) (givenOf 𝓤 H 𝓜 𝓖) (𝓜 .mem)
     (𝓡 .run)) 𝓜 𝓡 code.env #kernel·input-outcome input-outcome-def.routine code.calls-call-checks·refuse·input-outcome (input-outcome-thm.met 𝓤 H 𝓜 𝓖 𝓡))
-    (cited 𝓤 H (Asked 𝓤 H (𝓖 .A) (givenOf 𝓤 H 𝓜 𝓖) (𝓜 .mem) (𝓡 .run)) 𝓜 𝓡 code.env #batch·is-refused is-refused-def.routine code.calls-batch·refuse·is-refused
+    (cited 𝓤 H (Asked 𝓤 H (𝓖 .A) (givenOf 𝓤 H 𝓜 𝓖) (𝓜 .mem) (𝓡 .run)) 𝓜 𝓡 code.env #batch·is-refused is-refused-def.routine code.calls-batch-checks·is-refused
     (is-refused-thm.met 𝓤 H 𝓜 𝓖 𝓡)))

@@ -22,12 +22,12 @@ use denote.{Triple.Table.entered, Triple.Table.cited, Triple.Walked.goes-none, T
 use denote.{Triple.Walked.walked, Triple.Walked.walk-meets, Exit.yes, Triple.Clauses.ensured}
 use Rattle.rules.specs.declared.refusal.Outcome.{Outcome}
 use Rattle.kernel_decide.proofs.decide.decide.Symbol.{name as #kernel·decide}
-use Rattle.batch.specs.Refuse.{refuses}
+use Rattle.batch_checks.specs.Refuse.{refuses}
+use Rattle.batch_checks.proofs.{batch_outcome.Symbol.name as #batch·batch-outcome, is_refused.Symbol.name as #batch·is-refused}
 use Rattle.batch.proofs.{Batches.batch-answer, Batches.batch-refused, Asking.is-true, Asking.is-false, Asking.Asked, Asking.to-asked, Asking.goes-asked}
-use Rattle.batch.proofs.{Asking.asked-said, refuse.batch_outcome.Symbol.name as #batch·batch-outcome, refuse.is_refused.Symbol.name as #batch·is-refused}
-use Rattle.batch.proofs.{prescribe_batch.Key.name as #batch·prescribe-batch, prescribe_batch.Code.Mir.t-7, Handed.word, Handed.bank-ty, Handed.reqs-ty}
-use Rattle.batch.proofs.{Handed.row-ty, Handed.Shared, Handed.Handed, Handed.handed, Handed.κs, Handed.n, Handed.rq, Handed.vp, Handed.v, Handed.v₁}
-use Rattle.batch.proofs.{Handed.v₂, Handed.a, Handed.OwnBank, Handed.OwnReqs, Handed.Filled}
+use Rattle.batch.proofs.{Asking.asked-said, prescribe_batch.Key.name as #batch·prescribe-batch, prescribe_batch.Code.Mir.t-7, Handed.word}
+use Rattle.batch.proofs.{Handed.bank-ty, Handed.reqs-ty, Handed.row-ty, Handed.Shared, Handed.Handed, Handed.handed, Handed.κs, Handed.n, Handed.rq}
+use Rattle.batch.proofs.{Handed.vp, Handed.v, Handed.v₁, Handed.v₂, Handed.a, Handed.OwnBank, Handed.OwnReqs, Handed.Filled}
 use Frame.{stayed, at, Obs, Bor, Told, Token, Tested, Decide, Post, exits, to-tested, goes-tested, tested-said}
 use Loop.{Locals, En, Nearer, Nearer-wf, start, At, turns}
 use denote.Enum.Laws as EL
@@ -42,12 +42,12 @@ use Rattle.rules.proofs.refusal.Outcome as R
 use Rattle.rules.proofs.refusal.Outcome.Laws as R′
 use Rattle.kernel_decide.proofs.decide.decide.Symbol as decide-def
 use Rattle.kernel_decide.proofs.decide.decide.Met as decide-thm
-use Rattle.batch.proofs.refuse.batch_outcome as batch-outcome
-use Rattle.batch.proofs.refuse.batch_outcome.Symbol as batch-outcome-def
-use Rattle.batch.proofs.refuse.batch_outcome.Met as batch-outcome-thm
-use Rattle.batch.proofs.refuse.is_refused as is-refused
-use Rattle.batch.proofs.refuse.is_refused.Symbol as is-refused-def
-use Rattle.batch.proofs.refuse.is_refused.Met as is-refused-thm
+use Rattle.batch_checks.proofs.batch_outcome as batch-outcome
+use Rattle.batch_checks.proofs.batch_outcome.Symbol as batch-outcome-def
+use Rattle.batch_checks.proofs.batch_outcome.Met as batch-outcome-thm
+use Rattle.batch_checks.proofs.is_refused as is-refused
+use Rattle.batch_checks.proofs.is_refused.Symbol as is-refused-def
+use Rattle.batch_checks.proofs.is_refused.Met as is-refused-thm
 use Rattle.batch.proofs.prescribe_batch as this
 use Rattle.batch.proofs.prescribe_batch.Statement as stated
 use Rattle.batch.proofs.prescribe_batch.Code as code
@@ -192,6 +192,6 @@ prescribe-batch-spec 𝓤 H 𝓜 𝓖 𝓡 =
     (cited 𝓤 H (Decide 𝓤 H (𝓖 .A) (givenOf 𝓤 H 𝓜 𝓖) (𝓜 .mem) (𝓡 .run)) 𝓜 𝓡 code.env #kernel·decide decide-def.routine code.calls-kernel-decide·decide·decide
     (decide-thm.met 𝓤 H 𝓜 𝓖 𝓡))
     (cited 𝓤 H (Tested 𝓤 H (𝓖 .A) (givenOf 𝓤 H 𝓜 𝓖) (𝓜 .mem)
-    (𝓡 .run)) 𝓜 𝓡 code.env #batch·batch-outcome batch-outcome-def.routine code.calls-batch·refuse·batch-outcome (batch-outcome-thm.met 𝓤 H 𝓜 𝓖 𝓡))
-    (cited 𝓤 H (Asked 𝓤 H (𝓖 .A) (givenOf 𝓤 H 𝓜 𝓖) (𝓜 .mem) (𝓡 .run)) 𝓜 𝓡 code.env #batch·is-refused is-refused-def.routine code.calls-batch·refuse·is-refused
+    (𝓡 .run)) 𝓜 𝓡 code.env #batch·batch-outcome batch-outcome-def.routine code.calls-batch-checks·batch-outcome (batch-outcome-thm.met 𝓤 H 𝓜 𝓖 𝓡))
+    (cited 𝓤 H (Asked 𝓤 H (𝓖 .A) (givenOf 𝓤 H 𝓜 𝓖) (𝓜 .mem) (𝓡 .run)) 𝓜 𝓡 code.env #batch·is-refused is-refused-def.routine code.calls-batch-checks·is-refused
     (is-refused-thm.met 𝓤 H 𝓜 𝓖 𝓡)))

@@ -22,10 +22,10 @@ use denote.{Steps.nothing, Triple.Statement.Triple, Triple.Call.calls-at, Triple
 use denote.{Triple.Table.cited, Triple.Walked.goes-none, Triple.Walked.goes-none-slice, Triple.Walked.goes-gave-slice, Triple.Walked.Walks}
 use denote.{Triple.Walked.walked, Triple.Walked.walk-meets, Exit.yes, Triple.Clauses.ensured, Triple.Clauses.lasts}
 use Rattle.rules.specs.declared.refusal.Outcome.{Outcome}
-use Rattle.batch.specs.Refuse.{refuses}
+use Rattle.batch_checks.specs.Refuse.{refuses}
+use Rattle.batch_checks.proofs.{is_refused.Symbol.name as #batch·is-refused, checked_batch_outcome.Symbol.name as #batch·checked-batch-outcome}
 use Rattle.batch.proofs.{Batches.checked-refused, Batches.checked-fine, Asking.is-true, Asking.is-false, Asking.Asked, Asking.to-asked}
 use Rattle.batch.proofs.{Asking.goes-asked, Asking.asked-said, first_bad.Symbol.name as #batch·first-bad}
-use Rattle.batch.proofs.{refuse.is_refused.Symbol.name as #batch·is-refused, refuse.checked_batch_outcome.Symbol.name as #batch·checked-batch-outcome}
 use Rattle.batch.proofs.{prescribe_batch.Symbol.name as #batch·prescribe-batch, prescribe_batch_checked.Key.name as #batch·prescribe-batch-checked}
 use Rattle.batch.proofs.{prescribe_batch_checked.Code.Mir.t-4, Handed.word, Handed.bank-ty, Handed.reqs-ty, Handed.row-ty, Handed.Handed, Handed.handed}
 use Rattle.batch.proofs.{Handed.κs, Handed.n, Handed.rq, Handed.vp, Handed.v, Handed.v₁, Handed.v₂, Handed.a, Handed.OwnBank, Handed.OwnReqs}
@@ -43,12 +43,12 @@ use Rattle.rules.proofs.refusal.Outcome.Laws as R′
 use Rattle.batch.proofs.first_bad as first-bad
 use Rattle.batch.proofs.first_bad.Symbol as first-bad-def
 use Rattle.batch.proofs.first_bad.Met as first-bad-thm
-use Rattle.batch.proofs.refuse.is_refused as is-refused
-use Rattle.batch.proofs.refuse.is_refused.Symbol as is-refused-def
-use Rattle.batch.proofs.refuse.is_refused.Met as is-refused-thm
-use Rattle.batch.proofs.refuse.checked_batch_outcome as checked-outcome
-use Rattle.batch.proofs.refuse.checked_batch_outcome.Symbol as checked-batch-outcome-def
-use Rattle.batch.proofs.refuse.checked_batch_outcome.Met as checked-batch-outcome-thm
+use Rattle.batch_checks.proofs.is_refused as is-refused
+use Rattle.batch_checks.proofs.is_refused.Symbol as is-refused-def
+use Rattle.batch_checks.proofs.is_refused.Met as is-refused-thm
+use Rattle.batch_checks.proofs.checked_batch_outcome as checked-outcome
+use Rattle.batch_checks.proofs.checked_batch_outcome.Symbol as checked-batch-outcome-def
+use Rattle.batch_checks.proofs.checked_batch_outcome.Met as checked-batch-outcome-thm
 use Rattle.batch.proofs.prescribe_batch as batch
 use Rattle.batch.proofs.prescribe_batch.Symbol as batch-def
 use Rattle.batch.proofs.prescribe_batch.Met as batch-thm
@@ -241,10 +241,10 @@ prescribe-batch-checked-spec 𝓤 H 𝓜 𝓖 𝓡 =
     (checked-meets 𝓤 H (𝓖 .A) (givenOf 𝓤 H 𝓜 𝓖) (𝓜 .mem) (𝓡 .run) (tablesOf 𝓤 H 𝓜 (tables 𝓤 H 𝓜 𝓡 code.env))
     (cited 𝓤 H (First 𝓤 H (𝓖 .A) (givenOf 𝓤 H 𝓜 𝓖) (𝓜 .mem) (𝓡 .run)) 𝓜 𝓡 code.env #batch·first-bad first-bad-def.routine code.calls-batch·first-bad
     (first-bad-thm.met 𝓤 H 𝓜 𝓖 𝓡))
-    (cited 𝓤 H (Asked 𝓤 H (𝓖 .A) (givenOf 𝓤 H 𝓜 𝓖) (𝓜 .mem) (𝓡 .run)) 𝓜 𝓡 code.env #batch·is-refused is-refused-def.routine code.calls-batch·refuse·is-refused
+    (cited 𝓤 H (Asked 𝓤 H (𝓖 .A) (givenOf 𝓤 H 𝓜 𝓖) (𝓜 .mem) (𝓡 .run)) 𝓜 𝓡 code.env #batch·is-refused is-refused-def.routine code.calls-batch-checks·is-refused
     (is-refused-thm.met 𝓤 H 𝓜 𝓖 𝓡))
     (cited 𝓤 H (Checked 𝓤 H (𝓖 .A) (givenOf 𝓤 H 𝓜 𝓖) (𝓜 .mem)
-    (𝓡 .run)) 𝓜 𝓡 code.env #batch·checked-batch-outcome checked-batch-outcome-def.routine code.calls-batch·refuse·checked-batch-outcome
+    (𝓡 .run)) 𝓜 𝓡 code.env #batch·checked-batch-outcome checked-batch-outcome-def.routine code.calls-batch-checks·checked-batch-outcome
     (checked-batch-outcome-thm.met 𝓤 H 𝓜 𝓖 𝓡))
     (cited 𝓤 H (Batch 𝓤 H (𝓖 .A) (givenOf 𝓤 H 𝓜 𝓖) (𝓜 .mem) (𝓡 .run)) 𝓜 𝓡 code.env #batch·prescribe-batch batch-def.routine code.calls-batch·prescribe-batch
     (batch-thm.met 𝓤 H 𝓜 𝓖 𝓡)))

@@ -18,7 +18,7 @@ use denote.{Triple.Statement.Contract, Triple.Spec.tripleOf, Triple.Walked.says,
 use denote.{Triple.Walked.ends-at, Exit.yes, Triple.Clauses.ensured, Triple.Clauses.lasts}
 use Rattle.rules.specs.{Refused.firstFault, Refused.toldOutcome, Decide.requestFaults, Batch.requestsFaults, declared.records.KernelInput.KernelInput}
 use Rattle.rules.specs.{declared.refusal.Outcome.Outcome, declared.refusal.Outcome.the-variants.Answered}
-use Rattle.batch.specs.Refuse.{refuses}
+use Rattle.batch_checks.specs.Refuse.{refuses}
 use Rattle.batch.proofs.{Testing.bad-next, Asking.noRequest}
 use denote.Enum.Laws as EL
 use denote.Struct.Laws as LL

@@ -25,7 +25,7 @@ use Rattle.rules.proofs.decision.KernelDecision as S
 use Rattle.rules.proofs.refusal.Outcome as R
 use Rattle.rules.proofs.refusal.Outcome.Laws as R′
 use Rattle.kernel_decide.proofs.decide.decide as decide
-use Rattle.batch.proofs.refuse.batch_outcome as batch-outcome
+use Rattle.batch_checks.proofs.batch_outcome as batch-outcome
 use Rattle.batch.proofs.prescribe_batch as this
 
 abbrev pub stayed : Stays (this.ended .signature .params) (this.ended .kept)

@@ -22,7 +22,7 @@ use denote.{Index.shuts-slice, Slice.Room, Steps.peeks, Steps.heard, Triple.Stat
 use Rattle.rules.specs.{Numbers.toldDecision, Numbers.Decision, declared.records.KernelInput.KernelInput, declared.decision.KernelDecision.KernelDecision}
 use Rattle.rules.specs.{declared.refusal.Outcome.Outcome}
 use Rattle.kernel_decide.proofs.decide.decide.Symbol.{name as #kernel·decide}
-use Rattle.batch.specs.Refuse.{refuses}
+use Rattle.batch_checks.specs.Refuse.{refuses}
 use Rattle.batch.proofs.{Filling.after, Filling.after-none, Filling.after-step, Filling.map-set, Batches.batch-answer, Batches.batch-filled}
 use Rattle.batch.proofs.{Batches.batch-room, Batches.batch-records, Asking.noRequest, Asking.noDecision, prescribe_batch.Code.Mir.turn-1}
 use Rattle.batch.proofs.{prescribe_batch.Code.Mir.t-9, Handed.Qsize, Handed.Ssize, Handed.word, Handed.bank-ty, Handed.reqs-ty, Handed.row-ty}

@@ -24,7 +24,7 @@ use Rattle.rules.proofs.decision.KernelDecision as S
 use Rattle.rules.proofs.refusal.Outcome as R
 use Rattle.rules.proofs.refusal.Outcome.Laws as R′
 use Rattle.batch.proofs.first_bad as first-bad
-use Rattle.batch.proofs.refuse.checked_batch_outcome as checked-outcome
+use Rattle.batch_checks.proofs.checked_batch_outcome as checked-outcome
 use Rattle.batch.proofs.prescribe_batch as batch
 use Rattle.batch.proofs.prescribe_batch_checked as this
 

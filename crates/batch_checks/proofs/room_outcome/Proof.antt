@@ -1,8 +1,8 @@
--- `batch::room_outcome` meets its contract. Assumes nothing.
+-- `batch_checks::room_outcome` meets its contract. Assumes nothing.
 use Rattle.rules.proofs.Kit.{lt-ltb, le-ltb}
 use Rattle.rules.specs.Refused.{roomFaults, firstFault, toldOutcome}
-use Rattle.batch.proofs.refuse.room_outcome.Statement.{statement}
-use Rattle.batch.proofs.refuse.room_outcome.Tie as tie
+use Rattle.batch_checks.proofs.room_outcome.Statement.{statement}
+use Rattle.batch_checks.proofs.room_outcome.Tie as tie
 
 returns : tie.Need-returns
 unfolding roomFaults firstFault toldOutcome

@@ -1,8 +1,8 @@
--- `batch::batch_outcome` meets its contract. Assumes nothing.
+-- `batch_checks::batch_outcome` meets its contract. Assumes nothing.
 use Rattle.rules.proofs.Kit.{needs}
 use Rattle.rules.proofs.Faults.{joined-told}
-use Rattle.batch.proofs.refuse.batch_outcome.Statement.{statement}
-use Rattle.batch.proofs.refuse.batch_outcome.Tie as tie
+use Rattle.batch_checks.proofs.batch_outcome.Statement.{statement}
+use Rattle.batch_checks.proofs.batch_outcome.Tie as tie
 
 returns : tie.Need-returns
 returns c = joined-told _ _ (c .first-refused .ensures) (c .before .before .bank-outcome .ensures) (c .before .room-outcome .ensures)

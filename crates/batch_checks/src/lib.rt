@@ -1,8 +1,8 @@
-// What a batch refuses: the bank's length, the room of the row, then the requests.
+// For `batch`: what it refuses, the bank's length, the room of the row, then the requests.
 ghost use mathlib.Core.Path.{_≡_};
 ghost use mathlib.Core.List.{_++_};
 ghost use Rattle.rules.specs.Refused.{lengthFaults, roomFaults, firstFault, orElse, toldOutcome};
-ghost use Rattle.batch.specs.Refuse.{refuses};
+ghost use Rattle.batch_checks.specs.Refuse.{refuses};
 use call_checks::refuse::bank_outcome;
 use call_checks::refuse::first_refused;
 use rules::Outcome;

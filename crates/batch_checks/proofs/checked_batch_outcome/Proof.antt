@@ -1,7 +1,7 @@
--- `batch::checked_batch_outcome` meets its contract. Assumes nothing.
+-- `batch_checks::checked_batch_outcome` meets its contract. Assumes nothing.
 use Rattle.rules.proofs.Kit.{_∙_, needs}
-use Rattle.batch.proofs.refuse.checked_batch_outcome.Statement.{statement}
-use Rattle.batch.proofs.refuse.checked_batch_outcome.Tie as tie
+use Rattle.batch_checks.proofs.checked_batch_outcome.Statement.{statement}
+use Rattle.batch_checks.proofs.checked_batch_outcome.Tie as tie
 
 returns : tie.Need-returns
 returns c = c .first-refused .ensures ∙ rw (c .before .batch-outcome .ensures)

@@ -1,8 +1,8 @@
--- `batch::is_refused` meets its contract. Assumes nothing.
+-- `batch_checks::is_refused` meets its contract. Assumes nothing.
 use Rattle.rules.proofs.Kit.{needs}
-use Rattle.batch.specs.Refuse.{refuses}
-use Rattle.batch.proofs.refuse.is_refused.Statement.{statement}
-use Rattle.batch.proofs.refuse.is_refused.Tie as tie
+use Rattle.batch_checks.specs.Refuse.{refuses}
+use Rattle.batch_checks.proofs.is_refused.Statement.{statement}
+use Rattle.batch_checks.proofs.is_refused.Tie as tie
 
 returns : tie.Need-returns
 unfolding refuses
