@@ -5,7 +5,8 @@ use Rattle.rules.specs.{Decide.stoppedBy, Levers.Sought, Levers.noSearch, Lever
 use Rattle.rules.specs.{declared.records.PolicySnapshot.PolicySnapshot}
 use Rattle.kernel_ranking.specs.declared.state.Top.{Top}
 use Rattle.call_checks.proofs.Finding.{found-at}
-use Rattle.counterfactual_others.specs.Others.{topIn, othersOf}
+use Rattle.counterfactual_opening.specs.Opening.{topIn}
+use Rattle.counterfactual_others.specs.Others.{othersOf}
 use Rattle.counterfactual_others.proofs.Offers.{others-offer}
 use Rattle.counterfactual_pass.specs.{Asked.askedFrom, Asked.Stands, declared.pass.Asked.Asked}
 use Rattle.counterfactual_answer.specs.Levers.{LeverRooms, emptyRoom, roomOf, boundaryWith}

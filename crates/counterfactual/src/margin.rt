@@ -7,7 +7,7 @@ use call_checks::refuse::bank_outcome;
 use counterfactual_answer::answer::answered;
 use counterfactual_answer::answer::refused;
 use counterfactual_four_levers::margin::margin_levers;
-use counterfactual_others::open::opened;
+use counterfactual_opening::open::opened;
 use counterfactual_pass::pass::asked_at;
 use rules::Boundaries;
 use rules::Found;

@@ -18,7 +18,7 @@ use counterfactual_answer::levers::plain;
 use counterfactual_answer::levers::push;
 use counterfactual_four_levers::win::win_levers;
 use counterfactual_lever::ENABLED;
-use counterfactual_others::open::opened;
+use counterfactual_opening::open::opened;
 use counterfactual_pass::pass::Asked;
 use counterfactual_pass::pass::asked_at;
 use counterfactual_pass::pass::selected;

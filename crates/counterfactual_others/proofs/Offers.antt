@@ -14,8 +14,10 @@ use Rattle.kernel_scan.specs.Places.{onward, placedFrom}
 use Rattle.kernel_scan.proofs.Places.{length-placed, placed-all, listed-split}
 use Rattle.kernel_decide.specs.Decide.{decisionOfScan}
 use Rattle.kernel_decide.proofs.Decisions.{state-decides}
-use Rattle.counterfactual_others.specs.Others.{withoutPlace, topIn, bestOf, othersOf, bestWith, hasId}
-use Rattle.counterfactual_others.proofs.{Opening.top-free, Selecting.best-selects, Selecting.best-costs, Apart.best-apart, Apart.others-apart}
+use Rattle.counterfactual_opening.specs.Opening.{topIn}
+use Rattle.counterfactual_opening.proofs.Opening.{top-free}
+use Rattle.counterfactual_others.specs.Others.{withoutPlace, bestOf, othersOf, bestWith, hasId}
+use Rattle.counterfactual_others.proofs.{Selecting.best-selects, Selecting.best-costs, Apart.best-apart, Apart.others-apart}
 
 -- ---- the places of the others
 

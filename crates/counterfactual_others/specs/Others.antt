@@ -1,14 +1,13 @@
 -- What the other records offer, and one model against the best of them.
 use Prim.Native.Nat.{ℕ, _+_, _^_}
 use mathlib.Core.Bool.{Bool, cond, _&&_}
-use mathlib.Core.List.{List, [], _++_}
+use mathlib.Core.List.{List, _++_}
 use lib.Dec.{ltb, eqb}
 use lib.ListN.{take, drop}
-use Rattle.rules.specs.Choice.{below, equal}
+use Rattle.rules.specs.Choice.{equal}
 use Rattle.rules.specs.Records.{Listed}
 use Rattle.rules.specs.Verdict.{judged}
 use Rattle.rules.specs.Rank.{ranking}
-use Rattle.rules.specs.Decide.{stoppedBy}
 use Rattle.rules.specs.declared.records.KernelModel.{KernelModel}
 use Rattle.rules.specs.declared.records.KernelInput.{KernelInput}
 use Rattle.rules.specs.declared.records.PolicySnapshot.{PolicySnapshot}
@@ -23,10 +22,6 @@ use Rattle.kernel_ranking.specs.declared.verdict.Verdict.the-variants.{Rejected
 -- The list without what stands at a place
 unfoldable pub withoutPlace : ℕ → List Listed → List Listed
 withoutPlace place ls = take place ls ++ drop (place + 1) ls
-
--- D1, D2, D22. The first two of a list's ranking; a stopped request ranks none
-unfoldable pub topIn : PolicySnapshot → KernelInput → List Listed → Top
-topIn p q ls = below 0 (stoppedBy p q) (topOf []) (topOf (ranking (judged p q ls)))
 
 -- D22. The first of a list's ranking, `nobody` where none is eligible
 unfoldable pub bestOf : PolicySnapshot → KernelInput → List Listed → Candidate

@@ -1,9 +1,9 @@
--- `counterfactual_others::opened` meets its contract. Assumes nothing.
+-- `counterfactual_opening::opened` meets its contract. Assumes nothing.
 use Rattle.rules.proofs.Kit.{arith, sym, _∙_, needs}
 use Rattle.kernel_scan.proofs.Scanning.{start-room}
 use Rattle.kernel_decide.proofs.{Stops.open-decision, Stops.stopped-decision, Wholes.whole-state, Wholes.whole-decides}
-use Rattle.counterfactual_others.proofs.{Opening.open-top, Opening.stopped-top, open.opened.Statement.statement}
-use Rattle.counterfactual_others.proofs.open.opened.Tie as tie
+use Rattle.counterfactual_opening.proofs.{Opening.open-top, Opening.stopped-top, open.opened.Statement.statement}
+use Rattle.counterfactual_opening.proofs.open.opened.Tie as tie
 
 returns : tie.Need-returns
 returns c =

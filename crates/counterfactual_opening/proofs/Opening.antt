@@ -6,7 +6,7 @@ use Rattle.rules.proofs.Choices.{below-yes, below-no}
 use Rattle.kernel_decide.proofs.Stops.{open-free, by-high}
 use Rattle.kernel_ranking.specs.{State.topOf, State.stateOf, State.startOf, declared.state.State.State}
 use Rattle.kernel_decide.specs.{Stop.toldStop, declared.stop.Stop.Stop, declared.stop.Stop.the-variants.Open, declared.stop.Stop.the-variants.By}
-use Rattle.counterfactual_others.specs.Others.{topIn}
+use Rattle.counterfactual_opening.specs.Opening.{topIn}
 
 module _ (p : PolicySnapshot) (q : KernelInput) (ls : List Listed) where
   -- A REQUEST THAT NOTHING STOPS ranks the list

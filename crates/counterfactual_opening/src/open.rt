@@ -6,7 +6,7 @@ ghost use Rattle.rules.specs.Limits.{maxCatalogModels};
 ghost use Rattle.rules.specs.Records.{recordsIn, listedOf};
 ghost use Rattle.rules.specs.Numbers.{toldDecision};
 ghost use Rattle.rules.specs.Decide.{decisionOf};
-ghost use Rattle.counterfactual_others.specs.Others.{topIn};
+ghost use Rattle.counterfactual_opening.specs.Opening.{topIn};
 use kernel_decide::decide::decision_of_scan;
 use kernel_decide::decide::rejection_for;
 use kernel_decide::stop::Stop;

@@ -1,0 +1,2 @@
+-- The best two that a decision is made from.
+pub mod Opening
