@@ -5,7 +5,7 @@ use Rattle.rules.specs.{Choice.equal, Records.Listed, Numbers.Decision, Verdict
 use Rattle.rules.specs.{Decide.rejection, Decide.executedAs, Decide.chosen, Decide.byRanking, Decide.byVerdicts, Decide.decisionOf, Count.countsOf}
 use Rattle.rules.specs.{Count.dominantOf, Levers.selects, declared.records.KernelInput.KernelInput, declared.records.PolicySnapshot.PolicySnapshot}
 use Rattle.rules.proofs.Stopped.{unstopped}
-use Rattle.pricing.specs.Score.{scored}
+use Rattle.pricing_terms.specs.Score.{scored}
 use Rattle.kernel_ranking.specs.State.{heldOf, nobody, topOf}
 use Rattle.kernel_ranking.proofs.{Orders.Positive, Ranking.AllPositive, States.ranking-holds}
 use Rattle.counterfactual_others.specs.Others.{bestOf, hasId}

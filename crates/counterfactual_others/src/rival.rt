@@ -12,7 +12,7 @@ use kernel_ranking::verdict::Verdict;
 use kernel_ranking::verdict::entered;
 use pricing::Pricing;
 use pricing::cost_apart;
-use pricing::terms_wide;
+use pricing_terms::terms_wide;
 use rules::KernelInput;
 use rules::KernelModel;
 

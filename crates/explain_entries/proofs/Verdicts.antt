@@ -3,8 +3,9 @@ use Rattle.rules.proofs.Kit.{_^_, _≡_, refl, sym, ap, _∙_, Bool, true, fals
 use Rattle.rules.specs.{Choice.below, Records.Listed, Numbers.Verdict, Gates.gateOf, Price.costOf, Utility.utilityOf, Verdict.Judged, Verdict.judged}
 use Rattle.rules.specs.{Verdict.withTerms, Verdict.byUtility, Verdict.verdictOf, declared.records.KernelModel.KernelModel}
 use Rattle.rules.specs.{declared.records.KernelInput.KernelInput, declared.records.PolicySnapshot.PolicySnapshot}
-use Rattle.pricing.specs.{Pricing.pricingOf, Pricing.termsWith, Pricing.utilityTermsOf, declared.Pricing.Pricing, declared.ScoredTerms.ScoredTerms}
-use Rattle.pricing.proofs.{Scores.score-positive, Ruled.Ruled, Ruled.terms-rule}
+use Rattle.pricing.specs.{Pricing.pricingOf, declared.Pricing.Pricing}
+use Rattle.pricing_terms.specs.{Terms.termsWith, Terms.utilityTermsOf, declared.ScoredTerms.ScoredTerms}
+use Rattle.pricing_terms.proofs.{Scores.score-positive, Ruled.Ruled, Ruled.terms-rule}
 use Rattle.kernel_ranking.specs.{Verdict.byScore, Verdict.verdictIn, declared.verdict.Verdict.the-variants.Rejected}
 use Rattle.kernel_ranking.specs.{declared.verdict.Verdict.the-variants.OverBudget}
 use Rattle.explain_entries.specs.{Scanned.scanned, Entry.judgedEntry}

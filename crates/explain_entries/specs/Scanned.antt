@@ -4,7 +4,7 @@ use Rattle.rules.specs.Gates.{detailOf}
 use Rattle.rules.specs.Verdict.{rejected, overBudget}
 use Rattle.rules.specs.declared.records.KernelModel.{KernelModel}
 use Rattle.rules.specs.declared.records.KernelInput.{KernelInput}
-use Rattle.pricing.specs.Pricing.{utilityTermsOf}
+use Rattle.pricing_terms.specs.Terms.{utilityTermsOf}
 use Rattle.kernel_ranking.specs.declared.verdict.Verdict as scan
 use Rattle.kernel_ranking.specs.declared.verdict.Verdict.the-variants.{Rejected, OverBudget, NonPositive, Eligible}
 

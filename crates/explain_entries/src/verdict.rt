@@ -10,8 +10,8 @@ use gates::first_failed_gate;
 use gates::gate_detail;
 use kernel_ranking::state::ZERO_SCORE;
 use pricing::Pricing;
-use pricing::ScoredTerms;
-use pricing::utility_terms;
+use pricing_terms::ScoredTerms;
+use pricing_terms::utility_terms;
 use rules::CandidateVerdict;
 use rules::GateDetail;
 use rules::KernelInput;
@@ -60,5 +60,9 @@ pub fn candidate_verdict(
             limit_microunits: input.budget_limit_microunits,
         };
     }
-    verdict_by_score(input, model, pricing::terms_wide(pricing, model, cost))
+    verdict_by_score(
+        input,
+        model,
+        pricing_terms::terms_wide(pricing, model, cost),
+    )
 }

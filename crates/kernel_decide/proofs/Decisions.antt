@@ -4,8 +4,8 @@ use Rattle.rules.specs.{Choice.equal, Records.Listed, Verdict.Judged, Verdict.j
 use Rattle.rules.specs.{Count.countsOf, Decide.chosen, Decide.byRanking, Decide.byVerdicts, declared.records.KernelInput.KernelInput}
 use Rattle.rules.specs.{declared.records.PolicySnapshot.PolicySnapshot}
 use Rattle.rules.proofs.{Choices.equal-no, Sorted.sorted-length}
-use Rattle.pricing.specs.Score.{scored, unscored}
-use Rattle.pricing.proofs.Scores.{unscored-above}
+use Rattle.pricing_terms.specs.Score.{scored, unscored}
+use Rattle.pricing_terms.proofs.Scores.{unscored-above}
 use Rattle.kernel_ranking.specs.State.{heldOf, nobody, topOf, stateOf}
 use Rattle.kernel_decide.specs.Decide.{chosenFrom, decisionOfScan}
 use Rattle.kernel_ranking.proofs.{Orders.Positive, Ranking.AllPositive, States.ranking-holds}

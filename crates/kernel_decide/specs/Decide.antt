@@ -6,7 +6,7 @@ use Rattle.rules.specs.Count.{dominantOf}
 use Rattle.rules.specs.Decide.{rejection, executedAs}
 use Rattle.rules.specs.declared.records.KernelInput.{KernelInput}
 use Rattle.rules.specs.declared.records.PolicySnapshot.{PolicySnapshot}
-use Rattle.pricing.specs.Score.{unscored}
+use Rattle.pricing_terms.specs.Score.{unscored}
 use Rattle.kernel_ranking.specs.declared.state.State.{State}
 
 -- D26. The best is chosen, and the second is the counterfactual

@@ -14,7 +14,7 @@ use kernel_ranking::state::State;
 use kernel_ranking::state::start;
 use kernel_scan::pricing_for;
 use kernel_scan::scan_on;
-use pricing::utility_of;
+use pricing_terms::utility_of;
 use rules::KernelAction;
 use rules::KernelDecision;
 use rules::KernelInput;

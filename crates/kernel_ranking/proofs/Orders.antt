@@ -3,7 +3,7 @@ use Rattle.rules.proofs.Kit.{ℕ, _+_, _<_, _^_, arith, _≡_, refl, sym, subst
 use Rattle.rules.proofs.Kit.{ltb, ℤ, pos, negsuc, leZ}
 use Rattle.rules.specs.Choice.{lower, higher}
 use Rattle.rules.proofs.{Choices.lower-yes, Strict.Strict, Strict.before-through, Strict.numbers, Strict.turned, Strict.first, Strict.level-all}
-use Rattle.pricing.specs.Score.{scored}
+use Rattle.pricing_terms.specs.Score.{scored}
 use Rattle.kernel_ranking.specs.{State.heldOf, State.nobody, State.earlierOf, State.cheaperOf, State.betterOf, declared.state.Candidate.Candidate}
 use Rattle.rules.specs.Rank as rank
 

@@ -6,8 +6,9 @@ use Rattle.rules.specs.{Choice.below, Choice.equal, Records.Listed, Records.lis
 use Rattle.rules.specs.{Count.gateReason, Count.countedFor, Count.total, declared.records.KernelModel.KernelModel, declared.records.KernelInput.KernelInput}
 use Rattle.rules.specs.{declared.records.PolicySnapshot.PolicySnapshot}
 use Rattle.rules.proofs.{Reasons.reason-counted, Verdicts.gate-high, Counts.total-raised}
-use Rattle.pricing.specs.{Score.scored, Pricing.pricingOf, Pricing.termsWith, declared.Pricing.Pricing, declared.ScoredTerms.ScoredTerms}
-use Rattle.pricing.proofs.{Scores.scored-unscored, Scores.score-positive, Ruled.Ruled, Ruled.terms-rule}
+use Rattle.pricing.specs.{Pricing.pricingOf, declared.Pricing.Pricing}
+use Rattle.pricing_terms.specs.{Score.scored, Terms.termsWith, declared.ScoredTerms.ScoredTerms}
+use Rattle.pricing_terms.proofs.{Scores.scored-unscored, Scores.score-positive, Ruled.Ruled, Ruled.terms-rule}
 use Rattle.kernel_ranking.specs.{State.heldOf, State.enteredOf, Verdict.byScore, Verdict.verdictIn}
 use Rattle.kernel_ranking.specs.{Verdict.countedOf, Verdict.enteringOf, Verdict.stateAfter, Verdict.scanOf, declared.state.State.State}
 use Rattle.kernel_ranking.specs.{declared.verdict.Verdict.Verdict, declared.verdict.Verdict.the-variants.Rejected}

@@ -9,9 +9,9 @@ use Rattle.rules.specs.Count.{gateReason, raisedBy}
 use Rattle.rules.specs.declared.records.KernelModel.{KernelModel}
 use Rattle.rules.specs.declared.records.KernelInput.{KernelInput}
 use Rattle.rules.specs.declared.decision.RejectionHistogram.{RejectionHistogram}
-use Rattle.pricing.specs.Pricing.{termsWith}
 use Rattle.pricing.specs.declared.Pricing.{Pricing}
-use Rattle.pricing.specs.declared.ScoredTerms.{ScoredTerms}
+use Rattle.pricing_terms.specs.Terms.{termsWith}
+use Rattle.pricing_terms.specs.declared.ScoredTerms.{ScoredTerms}
 use Rattle.kernel_ranking.specs.State.{enteredOf}
 use Rattle.kernel_ranking.specs.declared.state.Candidate.{Candidate}
 use Rattle.kernel_ranking.specs.declared.state.State.{State}

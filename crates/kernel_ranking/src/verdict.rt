@@ -8,7 +8,7 @@ ghost use Rattle.kernel_ranking.specs.Verdict.{byScore, verdictIn, count
 use crate::state::Candidate;
 use crate::state::ZERO_SCORE;
 use pricing::Pricing;
-use pricing::ScoredTerms;
+use pricing_terms::ScoredTerms;
 use rules::KernelInput;
 use rules::KernelModel;
 use rules::RejectionHistogram;
@@ -45,7 +45,7 @@ pub fn verdict_of(pricing: Pricing, input: KernelInput, model: KernelModel) -> V
     if input.budget_limit_microunits < cost {
         return Verdict::OverBudget(cost);
     }
-    by_score(pricing::terms(pricing, model, cost))
+    by_score(pricing_terms::terms(pricing, model, cost))
 }
 
 // The counts with one more record that was told so; an eligible one raises none.

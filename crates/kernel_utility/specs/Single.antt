@@ -2,7 +2,7 @@
 use lib.IntN.{ℤ}
 use Rattle.rules.specs.Choice.{equal}
 use Rattle.rules.specs.Refused.{fault, Answer, refused, answered}
-use Rattle.pricing.specs.Score.{unscored}
+use Rattle.pricing_terms.specs.Score.{unscored}
 use Rattle.kernel_ranking.specs.declared.state.State.{State}
 
 -- N7. The best one's utility, refused where nothing is eligible

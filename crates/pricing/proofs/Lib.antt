@@ -1,4 +1,3 @@
--- The laws that the answers cite, and those that users of the crate cite: `settled`, `terms-rule` and the scores'.
+-- The laws that the answers cite, and those that users of the crate cite: `settled`, and how large products and terms are.
 pub mod Values
-pub mod Scores
-pub mod Ruled
+pub mod Settled

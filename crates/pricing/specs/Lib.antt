@@ -1,3 +1,2 @@
--- Scores and pricings: what the code carries in place of the rules' integers.
-pub mod Score
+-- Pricings: what a policy and a request settle once.
 pub mod Pricing

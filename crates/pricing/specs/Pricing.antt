@@ -1,18 +1,13 @@
--- What a policy and a request settle once, and the terms of a model under it.
+-- What a policy and a request settle once, and how far 64 bits are enough.
 use mathlib.Core.Path.{_≡_}
-use Prim.Native.Nat.{ℕ, _+_, _*_, _^_, _<_}
+use Prim.Native.Nat.{ℕ, _*_, _^_, _<_}
 use Rattle.rules.specs.Choice.{below}
 use Rattle.rules.specs.Limits.{maxU64}
-use Rattle.rules.specs.Utility.{orZero, shareOf, riskTermOf}
+use Rattle.rules.specs.Utility.{orZero, riskTermOf}
 use Rattle.rules.specs.Wide.{val, wideOf}
-use Rattle.rules.specs.declared.records.KernelModel.{KernelModel}
 use Rattle.rules.specs.declared.records.KernelInput.{KernelInput}
 use Rattle.rules.specs.declared.records.PolicySnapshot.{PolicySnapshot}
-use Rattle.rules.specs.declared.verdict.UtilityTerms.{UtilityTerms}
-use Rattle.rules.specs.declared.wide.Wide.{Wide}
 use Rattle.pricing.specs.declared.Pricing.{Pricing}
-use Rattle.pricing.specs.declared.ScoredTerms.{ScoredTerms}
-use Rattle.pricing.specs.Score.{unscored, scoreOf}
 
 -- what both prices stay below for the tokens of both directions to be paid by 64 bits
 unfoldable pub priceLimit : ℕ → ℕ → ℕ
@@ -37,30 +32,3 @@ pricingOf p q =
 pub record Settled (pr : Pricing) : Type 0 where
   pub prefix : pr .«quality_prefix» ≡ prefixOf (pr .value) (pr .«confidence_bps»)
   pub room : val (pr .«risk_penalty») < 2 ^ 70
-
--- D19. Four terms, and the score of the first less the others
-unfoldable pub scoredTerms : ℕ → Wide → ℕ → ℕ → ScoredTerms
-scoredTerms quality risk cost latency =
-    record {
-      «quality_adjusted» = wideOf quality;
-      «risk_penalty» = risk;
-      «cost_microunits» = cost;
-      «latency_penalty» = wideOf latency;
-      score = scoreOf quality (val risk + (cost + latency));
-    }
-
--- D16, D18, D19. The terms of a model, its cost given
-unfoldable pub termsWith : Pricing → KernelModel → ℕ → ScoredTerms
-termsWith pr m cost =
-    scoredTerms (shareOf (pr .value) (pr .«confidence_bps») (m .«quality_bps»)) (pr .«risk_penalty») cost (m .«p95_latency_ms» * pr .«latency_pen_per_ms»)
-
--- the same terms with the utility that the score stands for
-unfoldable pub utilityTermsOf : ScoredTerms → UtilityTerms
-utilityTermsOf t =
-    record {
-      «quality_adjusted» = t .«quality_adjusted»;
-      «risk_penalty» = t .«risk_penalty»;
-      «cost_microunits» = t .«cost_microunits»;
-      «latency_penalty» = t .«latency_penalty»;
-      utility = unscored (t .score);
-    }

@@ -38,14 +38,14 @@ fn prefix_of(value: u64, share: u16) -> u64
 }
 
 // One limb as two.
-pub(crate) fn widened(x: u64) -> Wide
+pub fn widened(x: u64) -> Wide
     ensures { λ r. ⌜ r ≡ wideOf x ⌝ }
 {
     Wide { hi: 0, lo: x }
 }
 
 // The rest of a term by 64 bits, from the value times the first share.
-pub(crate) fn share_small(prefix: u64, share: u16) -> u64
+pub fn share_small(prefix: u64, share: u16) -> u64
     requires { ⌜ prefix < 2 ^ 48 ⌝ }
     ensures { λ r. ⌜ (r ≡ prefix * share / scaledBasisPoints) × (r < 2 ^ 62) ⌝ }
 {
@@ -62,7 +62,7 @@ fn share_wide(value: u64, a: u16, b: u16) -> Wide
 }
 
 // A value times two shares: `scaled_term_exact`.
-pub(crate) fn share(value: u64, a: u16, b: u16) -> Wide
+pub fn share(value: u64, a: u16, b: u16) -> Wide
     ensures { λ r. ⌜ r ≡ wideOf (shareOf value a b) ⌝ }
 {
     let prefix = prefix_of(value, a);

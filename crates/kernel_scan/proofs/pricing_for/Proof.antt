@@ -1,7 +1,7 @@
 -- `kernel_scan::pricing_for` meets its contract: a policy and a request of their types leave room. Assumes nothing.
 use Rattle.rules.proofs.Kit.{_<_, _^_, arith, needs, ℤ, pos, negsuc, w64, SFits}
 use Rattle.rules.specs.Utility.{orZero}
-use Rattle.pricing.proofs.Ruled.{settled}
+use Rattle.pricing.proofs.Settled.{settled}
 use Rattle.kernel_scan.proofs.pricing_for.Statement.{statement}
 use Rattle.kernel_scan.proofs.pricing_for.Tie as tie
 

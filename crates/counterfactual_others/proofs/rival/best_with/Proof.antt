@@ -3,7 +3,8 @@ use Rattle.rules.proofs.Kit.{ℕ, _≡_, refl, sym, ap, _∙_, Bool, true, fals
 use denote.Enum.Declared.{tagOf}
 use types.Run.{OneOf}
 use Rattle.rules.specs.{declared.records.KernelModel.KernelModel, declared.records.KernelInput.KernelInput}
-use Rattle.pricing.specs.{declared.Pricing.Pricing, declared.ScoredTerms.ScoredTerms}
+use Rattle.pricing.specs.declared.Pricing.{Pricing}
+use Rattle.pricing_terms.specs.declared.ScoredTerms.{ScoredTerms}
 use Rattle.kernel_ranking.specs.{State.betterOf, Verdict.verdictIn, Verdict.enteringOf, declared.state.Candidate.Candidate, declared.verdict.Verdict.Verdict}
 use Rattle.kernel_ranking.specs.{declared.verdict.Verdict.the-variants.Rejected, declared.verdict.Verdict.the-variants.OverBudget}
 use Rattle.kernel_ranking.specs.{declared.verdict.Verdict.the-variants.NonPositive, declared.verdict.Verdict.the-variants.Eligible}

@@ -1,7 +1,7 @@
 -- `pricing::settle::gained` meets its contract, by the sign. Assumes nothing.
 use Rattle.rules.proofs.Kit.{_≡_, sym, ap, _∙_, false, pos, ltZ}
 use mir.Facts.{toZ-ofZ, fits-natAbs}
-use Rattle.pricing.proofs.{Scores.gain-neg, Scores.nonneg, Scores.gain-pos, settle.gained.Statement.statement}
+use Rattle.pricing.proofs.{Settled.gain-neg, Settled.nonneg, Settled.gain-pos, settle.gained.Statement.statement}
 use Rattle.pricing.proofs.settle.gained.Tie as tie
 
 left : (c : tie.Else1) → ltZ (c .before .args .value) (pos 0) ≡ false

@@ -1,10 +1,10 @@
--- `pricing::worth::score_wide` meets its contract: a negative difference is held at 0, any other at the highest u64.
+-- `pricing_terms::worth::score_wide` meets its contract: a negative difference is held at 0, any other at the highest u64.
 -- Assumes nothing.
 use Rattle.rules.proofs.Kit.{sym, _∙_, arith, ltb-true, ltb-false, needs}
 use Rattle.rules.specs.Wide.{val}
-use Rattle.pricing.specs.Score.{scoreOf}
-use Rattle.pricing.proofs.{Scores.size-is, worth.score_wide.Statement.statement}
-use Rattle.pricing.proofs.worth.score_wide.Tie as tie
+use Rattle.pricing_terms.specs.Score.{scoreOf}
+use Rattle.pricing_terms.proofs.{Scores.size-is, worth.score_wide.Statement.statement}
+use Rattle.pricing_terms.proofs.worth.score_wide.Tie as tie
 
 returns : tie.Need-returns
 unfolding scoreOf

@@ -1,7 +1,8 @@
--- `pricing::worth::late_small` meets its contract: 32 bits and 32 make 64. Assumes nothing.
+-- `pricing_terms::worth::late_small` meets its contract: 32 bits and 32 make 64. Assumes nothing.
 use Rattle.rules.proofs.Kit.{arith, needs}
-use Rattle.pricing.proofs.{Values.product-le, worth.late_small.Statement.statement}
-use Rattle.pricing.proofs.worth.late_small.Tie as tie
+use Rattle.pricing.proofs.Values.{product-le}
+use Rattle.pricing_terms.proofs.worth.late_small.Statement.{statement}
+use Rattle.pricing_terms.proofs.worth.late_small.Tie as tie
 
 mul-result : tie.Need-mul-result
 mul-result c = omega (arith, product-le 32 32 {a = c .args .ms} {b = c .args .penalty} (omega arith) (c .pre))

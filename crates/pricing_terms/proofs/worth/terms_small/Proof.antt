@@ -1,9 +1,9 @@
--- `pricing::worth::terms_small` meets its contract: the score stays below 2 ^ 64, so that only 0 holds it. Assumes nothing.
+-- `pricing_terms::worth::terms_small` meets its contract: the score stays below 2 ^ 64, so that only 0 holds it. Assumes nothing.
 use Rattle.rules.proofs.Kit.{_≡_, _+_, arith, needs}
 use Rattle.rules.specs.Wide.{val}
-use Rattle.pricing.specs.{Score.scoreOf, Pricing.scoredTerms}
-use Rattle.pricing.proofs.worth.terms_small.Statement.{statement}
-use Rattle.pricing.proofs.worth.terms_small.Tie as tie
+use Rattle.pricing_terms.specs.{Score.scoreOf, Terms.scoredTerms}
+use Rattle.pricing_terms.proofs.worth.terms_small.Statement.{statement}
+use Rattle.pricing_terms.proofs.worth.terms_small.Tie as tie
 
 returns : tie.Need-returns
 unfolding scoredTerms scoreOf

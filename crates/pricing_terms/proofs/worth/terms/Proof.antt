@@ -1,8 +1,9 @@
--- `pricing::worth::terms` meets its contract: the short way computes the same four terms. Assumes nothing.
+-- `pricing_terms::worth::terms` meets its contract: the short way computes the same four terms. Assumes nothing.
 use Rattle.rules.proofs.Kit.{_∙_, arith, needs}
-use Rattle.pricing.specs.Pricing.{scoredTerms, termsWith}
-use Rattle.pricing.proofs.{Values.prefix-share, worth.terms.Statement.statement}
-use Rattle.pricing.proofs.worth.terms.Tie as tie
+use Rattle.pricing_terms.specs.Terms.{scoredTerms, termsWith}
+use Rattle.pricing.proofs.Values.{prefix-share}
+use Rattle.pricing_terms.proofs.worth.terms.Statement.{statement}
+use Rattle.pricing_terms.proofs.worth.terms.Tie as tie
 
 returns : tie.Need-returns
 unfolding termsWith

@@ -1,8 +1,8 @@
--- `pricing::worth::utility_terms` meets its contract, field by field. Assumes nothing.
+-- `pricing_terms::worth::utility_terms` meets its contract, field by field. Assumes nothing.
 use Rattle.rules.proofs.Kit.{_∙_, needs, w64, toZ-ofZ}
-use Rattle.pricing.specs.Pricing.{utilityTermsOf}
-use Rattle.pricing.proofs.worth.utility_terms.Statement.{statement}
-use Rattle.pricing.proofs.worth.utility_terms.Tie as tie
+use Rattle.pricing_terms.specs.Terms.{utilityTermsOf}
+use Rattle.pricing_terms.proofs.worth.utility_terms.Statement.{statement}
+use Rattle.pricing_terms.proofs.worth.utility_terms.Tie as tie
 
 returns : tie.Need-returns
 unfolding utilityTermsOf

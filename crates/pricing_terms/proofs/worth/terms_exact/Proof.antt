@@ -1,10 +1,11 @@
--- `pricing::worth::terms_exact` meets its contract: no sum of the four terms comes near 2 ^ 126. Assumes nothing.
+-- `pricing_terms::worth::terms_exact` meets its contract: no sum of the four terms comes near 2 ^ 126. Assumes nothing.
 use Rattle.rules.proofs.Kit.{_≡_, ap, ap₂, _∙_, _+_, _*_, _^_, _<_, arith, needs}
 use Rattle.rules.specs.{Wide.val, Wide.limbs, Utility.shareOf}
-use Rattle.pricing.specs.{Score.scoreOf, Pricing.scoredTerms}
+use Rattle.pricing_terms.specs.{Score.scoreOf, Terms.scoredTerms}
 use Rattle.rules.proofs.Limbs.{wide-val}
-use Rattle.pricing.proofs.{Values.product-le, Values.share-lt, Values.wide-is, worth.terms_exact.Statement.statement}
-use Rattle.pricing.proofs.worth.terms_exact.Tie as tie
+use Rattle.pricing.proofs.Values.{product-le, share-lt, wide-is}
+use Rattle.pricing_terms.proofs.worth.terms_exact.Statement.{statement}
+use Rattle.pricing_terms.proofs.worth.terms_exact.Tie as tie
 
 -- the latency term, and the quality term
 late : (c : tie.Start) → c .args .ms * c .args .penalty < 2 ^ 96

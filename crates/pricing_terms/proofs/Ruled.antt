@@ -1,18 +1,12 @@
 -- What the crate's definitions are by the rules of document 01. Assumes nothing.
-use Rattle.rules.proofs.Kit.{_≡_, refl, ap, _∙_, _+_, _^_, _<_}
-use Rattle.rules.specs.{Price.costOf, Utility.held, Utility.orZero, Utility.qualityTermOf, Utility.riskTermOf, Utility.latencyTermOf, Utility.exactUtilityOf}
+use Rattle.rules.proofs.Kit.{_≡_, refl, ap, _∙_, _+_}
+use Rattle.rules.specs.{Price.costOf, Utility.held, Utility.qualityTermOf, Utility.riskTermOf, Utility.latencyTermOf, Utility.exactUtilityOf}
 use Rattle.rules.specs.{Utility.utilityOf, Wide.val, declared.records.KernelModel.KernelModel, declared.records.KernelInput.KernelInput}
 use Rattle.rules.specs.{declared.records.PolicySnapshot.PolicySnapshot}
-use Rattle.pricing.specs.{declared.ScoredTerms.ScoredTerms, Score.unscored, Score.scoreOf, Pricing.pricingOf, Pricing.Settled, Pricing.scoredTerms}
-use Rattle.pricing.specs.{Pricing.termsWith}
+use Rattle.pricing.specs.Pricing.{pricingOf}
+use Rattle.pricing_terms.specs.{declared.ScoredTerms.ScoredTerms, Score.unscored, Score.scoreOf, Terms.scoredTerms, Terms.termsWith}
 use Rattle.rules.proofs.Limbs.{wide-val}
-use Rattle.pricing.proofs.{Values.share-lt, Scores.score-stands, Scores.three-losses}
-
--- a pricing of a policy and a request whose numbers are those of their types is settled
-pub settled : (p : PolicySnapshot) (q : KernelInput) → orZero (q .«business_value_microunits») < 2 ^ 64 → q .«risk_bps» < 2 ^ 16
-    → p .«risk_penalty_multiplier_bps» < 2 ^ 16 → Settled (pricingOf p q)
-unfolding pricingOf riskTermOf
-settled p q v r m = record { prefix = refl; room = rw (wide-val (riskTermOf p q)) (share-lt v r m) }
+use Rattle.pricing_terms.proofs.Scores.{score-stands, three-losses}
 
 -- terms that are those of the rules, and a score that stands for the rules' utility
 pub record Ruled (p : PolicySnapshot) (m : KernelModel) (q : KernelInput) (t : ScoredTerms) : Type 0 where

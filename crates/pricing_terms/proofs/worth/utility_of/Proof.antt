@@ -1,7 +1,7 @@
--- `pricing::worth::utility_of` meets its contract, by the sign. Assumes nothing.
+-- `pricing_terms::worth::utility_of` meets its contract, by the sign. Assumes nothing.
 use Rattle.rules.proofs.Kit.{needs}
-use Rattle.pricing.proofs.{Scores.signed-below, Scores.signed-above, worth.utility_of.Statement.statement}
-use Rattle.pricing.proofs.worth.utility_of.Tie as tie
+use Rattle.pricing_terms.proofs.{Scores.signed-below, Scores.signed-above, worth.utility_of.Statement.statement}
+use Rattle.pricing_terms.proofs.worth.utility_of.Tie as tie
 
 returns-2 : tie.Need-returns-2
 returns-2 c = signed-above (c .before .args .score) (c .if1 .left) (c .before .fits .score .fits)

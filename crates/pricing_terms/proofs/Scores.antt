@@ -1,12 +1,12 @@
 -- Scores and the integers that they stand for. Assumes nothing.
-use Rattle.rules.proofs.Kit.{_≡_, refl, sym, ap, ap₂, _∙_, Bool, true, false, ℕ, suc, _+_, _-_, _^_, _≤_, _<_, le-of-suc-le-suc, lt-of-not-le, decLt, arith}
-use Rattle.rules.proofs.Kit.{lt-ltb, le-ltb, le-leb, lt-leb, ltb-true, ltb-false, T, ltb, leb, ℤ, pos, negsuc, negℤ, natAbs, subℕ, _+ℤ_, _-ℤ_, +ℤ-assoc}
-use Rattle.rules.proofs.Kit.{negℤ-+ℤ, ltZ, leZ, nonNeg, w64, toZ}
+use Rattle.rules.proofs.Kit.{_≡_, sym, ap, ap₂, _∙_, true, false, ℕ, suc, _+_, _-_, _^_, _≤_, _<_, le-of-suc-le-suc, lt-of-not-le, decLt, arith}
+use Rattle.rules.proofs.Kit.{lt-ltb, le-ltb, le-leb, lt-leb, ltb-true, ltb-false, ltb, leb, ℤ, pos, negsuc, negℤ, natAbs, subℕ, _+ℤ_, _-ℤ_, +ℤ-assoc}
+use Rattle.rules.proofs.Kit.{negℤ-+ℤ, ltZ, leZ, w64, toZ}
 use mir.Facts.{toZ-pos, toZ-neg}
 use Rattle.limbs.proofs.Limbs.{decides}
 use Rattle.rules.proofs.Integers.{sub-is, sub-above, sub-below}
-use Rattle.rules.specs.{Limits.maxU64, Limits.maxI64, Utility.held, Utility.orZero, Wide.val, Wide.valZ, Wide.signed, declared.wide.SignedWide.SignedWide}
-use Rattle.pricing.specs.Score.{unscored, scored, scoreOf}
+use Rattle.rules.specs.{Limits.maxU64, Limits.maxI64, Utility.held, Wide.val, Wide.valZ, Wide.signed, declared.wide.SignedWide.SignedWide}
+use Rattle.pricing_terms.specs.Score.{unscored, scored, scoreOf}
 
 le-of : {a b : ℕ} → ¬ (a < b) → b ≤ a
 le-of n = le-of-suc-le-suc (lt-of-not-le n)
@@ -101,19 +101,3 @@ signed-below s h =
 
 pub signed-above : (s : ℕ) → 2 ^ 63 ≤ s → s < 2 ^ 64 → toZ w64 (s - 2 ^ 63) ≡ unscored s
 signed-above s h k = toZ-pos w64 (omega arith) ∙ sym (unscored-above s h)
-
--- a value by its sign
-pub gain-neg : (z : ℤ) → ltZ z (pos 0) ≡ true → 0 ≡ orZero z
-gain-neg (pos n) h = omega (arith, ltb-true n 0 h)
-gain-neg (negsuc n) h = refl
-
-never : (n : ℕ) → ltZ (negsuc n) (pos 0) ≡ false → ⊥
-never n h = let z : _≡_ {A = Bool} true false = h in let y : _≡_ {A = ℕ} 0 1 = cc in omega arith
-
-pub nonneg : (z : ℤ) → ltZ z (pos 0) ≡ false → T (nonNeg z)
-nonneg (pos n) h = tt
-nonneg (negsuc n) h = absurd (never n h)
-
-pub gain-pos : (z : ℤ) → ltZ z (pos 0) ≡ false → natAbs z ≡ orZero z
-gain-pos (pos n) h = refl
-gain-pos (negsuc n) h = absurd (never n h)
