@@ -6,14 +6,13 @@ use Rattle.rules.specs.{declared.records.KernelModel.KernelModel, declared.reco
 use Rattle.rules.proofs.Strict.{one-way}
 use Rattle.pricing.specs.Pricing.{pricingOf}
 use Rattle.kernel_ranking.specs.{State.heldOf, State.nobody, State.topTwo, State.topOf, State.stateOf, State.betterOf, State.rankedOf, State.enteredOf}
-use Rattle.kernel_ranking.specs.{Verdict.verdictIn, Verdict.enteringOf, Verdict.stateAfter, declared.state.Top.Top, declared.state.State.State}
-use Rattle.kernel_ranking.specs.{declared.verdict.Verdict.Verdict, declared.verdict.Verdict.the-variants.Rejected}
-use Rattle.kernel_ranking.specs.{declared.verdict.Verdict.the-variants.OverBudget, declared.verdict.Verdict.the-variants.NonPositive}
-use Rattle.kernel_ranking.specs.{declared.verdict.Verdict.the-variants.Eligible}
+use Rattle.kernel_verdict.specs.{Verdict.verdictIn, Verdict.enteringOf, declared.Verdict.Verdict}
+use Rattle.kernel_verdict.specs.declared.Verdict.the-variants.{Rejected, OverBudget, NonPositive, Eligible}
+use Rattle.kernel_ranking.specs.{After.stateAfter, declared.state.Top.Top, declared.state.State.State}
 use Rattle.kernel_ranking.proofs.{Orders.clash, Orders.five, Orders.better-through, Orders.better-held, Orders.better-nobody, Ranking.AllPositive}
 use Rattle.kernel_ranking.proofs.{States.ranking-holds, Moved.Elsewhere, Moved.ranking-each, Moved.state-apart, Verdicts.step-alike}
 use Rattle.counterfactual_others.specs.Others.{bestOf, othersOf, against, bestWith}
-use Rattle.kernel_ranking.specs.declared.state.Candidate as held
+use Rattle.kernel_verdict.specs.declared.Candidate as held
 
 -- ---- two candidates and one more
 

@@ -8,7 +8,8 @@ use Rattle.rules.specs.{declared.records.PolicySnapshot.PolicySnapshot, Order.E
 use Rattle.rules.proofs.Stopped.{unstopped}
 use Rattle.pricing.specs.Pricing.{pricingOf}
 use Rattle.bank.proofs.Listing.{length-listed}
-use Rattle.kernel_ranking.specs.{State.stateOf, Verdict.verdictIn, Verdict.stateAfter}
+use Rattle.kernel_verdict.specs.Verdict.{verdictIn}
+use Rattle.kernel_ranking.specs.{State.stateOf, After.stateAfter}
 use Rattle.kernel_ranking.proofs.{Moved.Elsewhere, Moved.state-apart, Verdicts.step-alike}
 use Rattle.kernel_scan.specs.Places.{onward, placedFrom}
 use Rattle.kernel_scan.proofs.Places.{length-placed, placed-all, listed-split}

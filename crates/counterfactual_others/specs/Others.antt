@@ -13,11 +13,11 @@ use Rattle.rules.specs.declared.records.KernelInput.{KernelInput}
 use Rattle.rules.specs.declared.records.PolicySnapshot.{PolicySnapshot}
 use Rattle.pricing.specs.declared.Pricing.{Pricing}
 use Rattle.kernel_ranking.specs.State.{topOf, betterOf}
-use Rattle.kernel_ranking.specs.Verdict.{verdictIn, enteringOf}
-use Rattle.kernel_ranking.specs.declared.state.Candidate.{Candidate}
+use Rattle.kernel_verdict.specs.Verdict.{verdictIn, enteringOf}
+use Rattle.kernel_verdict.specs.declared.Candidate.{Candidate}
+use Rattle.kernel_verdict.specs.declared.Verdict.{Verdict}
+use Rattle.kernel_verdict.specs.declared.Verdict.the-variants.{Rejected, OverBudget, NonPositive, Eligible}
 use Rattle.kernel_ranking.specs.declared.state.Top.{Top}
-use Rattle.kernel_ranking.specs.declared.verdict.Verdict.{Verdict}
-use Rattle.kernel_ranking.specs.declared.verdict.Verdict.the-variants.{Rejected, OverBudget, NonPositive, Eligible}
 
 -- The list without what stands at a place
 unfoldable pub withoutPlace : ℕ → List Listed → List Listed

@@ -1,17 +1,17 @@
 // The best of the other records, and one model against it.
 ghost use mathlib.Core.Path.{_≡_};
 ghost use Rattle.pricing.specs.Pricing.{Settled};
-ghost use Rattle.kernel_ranking.specs.Verdict.{verdictIn};
+ghost use Rattle.kernel_verdict.specs.Verdict.{verdictIn};
 ghost use Rattle.counterfactual_others.specs.Others.{othersOf, bestWith, hasId};
 use gates::first_failed_gate;
 use kernel_ranking::rank::candidate_better;
-use kernel_ranking::state::Candidate;
 use kernel_ranking::state::Top;
-use kernel_ranking::state::ZERO_SCORE;
-use kernel_ranking::verdict::Verdict;
-use kernel_ranking::verdict::entered;
+use kernel_verdict::Candidate;
+use kernel_verdict::Verdict;
+use kernel_verdict::entered;
 use pricing::Pricing;
 use pricing::cost_apart;
+use pricing_terms::ZERO_SCORE;
 use pricing_terms::terms_wide;
 use rules::KernelInput;
 use rules::KernelModel;

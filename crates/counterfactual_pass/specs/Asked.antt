@@ -14,7 +14,7 @@ use Rattle.rules.specs.declared.records.KernelInput.{KernelInput}
 use Rattle.rules.specs.declared.records.PolicySnapshot.{PolicySnapshot}
 use Rattle.pricing.specs.Pricing.{pricingOf}
 use Rattle.pricing.specs.declared.Pricing.{Pricing}
-use Rattle.kernel_ranking.specs.declared.state.Candidate.{Candidate}
+use Rattle.kernel_verdict.specs.declared.Candidate.{Candidate}
 use Rattle.kernel_ranking.specs.declared.state.Top.{Top}
 use Rattle.counterfactual_others.specs.Others.{withoutPlace, bestOf, othersOf, bestWith, hasId}
 use Rattle.counterfactual_lever.specs.Lever.{widest}

@@ -5,7 +5,7 @@ use mathlib.Core.List.{List}
 use lib.ListN.{getD}
 use Rattle.rules.specs.Records.{modelOf, inputOf}
 use Rattle.pricing.specs.declared.Pricing.{Pricing}
-use Rattle.kernel_ranking.specs.declared.state.Candidate.{Candidate}
+use Rattle.kernel_verdict.specs.declared.Candidate.{Candidate}
 use Rattle.counterfactual_pass.specs.Asked.{winsBy}
 
 -- The place and the id of the model that is varied, the best of the others, and what is settled, as thirteen numbers say them

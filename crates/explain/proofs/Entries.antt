@@ -7,7 +7,7 @@ use Rattle.rules.specs.{declared.records.PolicySnapshot.PolicySnapshot}
 use Rattle.endian.specs.Put.{patched}
 use Rattle.packing.proofs.Layouts.{length-packed}
 use Rattle.pricing.specs.declared.Pricing.{Pricing}
-use Rattle.kernel_ranking.specs.Verdict.{verdictIn}
+use Rattle.kernel_verdict.specs.Verdict.{verdictIn}
 use Rattle.bank.proofs.Listing.{length-listed, listed-at, nowhere}
 use Rattle.splice.proofs.Pieces.{Written, written-none, written-one, written-then, written-as, written-length, written-filled}
 use Rattle.explain_entries.specs.{Scanned.scanned, Entry.judgedEntry}

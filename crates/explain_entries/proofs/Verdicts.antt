@@ -6,10 +6,10 @@ use Rattle.rules.specs.{declared.records.KernelInput.KernelInput, declared.reco
 use Rattle.pricing.specs.{Pricing.pricingOf, declared.Pricing.Pricing}
 use Rattle.pricing_terms.specs.{Terms.termsWith, Terms.utilityTermsOf, declared.ScoredTerms.ScoredTerms}
 use Rattle.pricing_terms.proofs.{Scores.score-positive, Ruled.Ruled, Ruled.terms-rule}
-use Rattle.kernel_ranking.specs.{Verdict.byScore, Verdict.verdictIn, declared.verdict.Verdict.the-variants.Rejected}
-use Rattle.kernel_ranking.specs.{declared.verdict.Verdict.the-variants.OverBudget}
+use Rattle.kernel_verdict.specs.Verdict.{byScore, verdictIn}
+use Rattle.kernel_verdict.specs.declared.Verdict.the-variants.{Rejected, OverBudget}
 use Rattle.explain_entries.specs.{Scanned.scanned, Entry.judgedEntry}
-use Rattle.kernel_ranking.specs.declared.verdict.Verdict as scan
+use Rattle.kernel_verdict.specs.declared.Verdict as scan
 
 module _ (p : PolicySnapshot) (q : KernelInput) (m : KernelModel) where
   either : (b : Bool) (x y : scan.Verdict) (u v : Verdict) → scanned q m x ≡ u → scanned q m y ≡ v → scanned q m (cond b x y) ≡ cond b u v

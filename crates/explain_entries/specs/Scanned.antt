@@ -5,8 +5,8 @@ use Rattle.rules.specs.Verdict.{rejected, overBudget}
 use Rattle.rules.specs.declared.records.KernelModel.{KernelModel}
 use Rattle.rules.specs.declared.records.KernelInput.{KernelInput}
 use Rattle.pricing_terms.specs.Terms.{utilityTermsOf}
-use Rattle.kernel_ranking.specs.declared.verdict.Verdict as scan
-use Rattle.kernel_ranking.specs.declared.verdict.Verdict.the-variants.{Rejected, OverBudget, NonPositive, Eligible}
+use Rattle.kernel_verdict.specs.declared.Verdict as scan
+use Rattle.kernel_verdict.specs.declared.Verdict.the-variants.{Rejected, OverBudget, NonPositive, Eligible}
 
 -- B6. A scan keeps the gate, the cost or the terms. With the model and the request they tell the rest: what the gate compared, the budget,
 -- and the utility that a score stands for

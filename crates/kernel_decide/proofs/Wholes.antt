@@ -3,7 +3,7 @@ use Rattle.rules.proofs.Kit.{ℕ, _/_, _≡_, sym, ap, _∙_, List, length, set
 use Rattle.rules.specs.{Records.listed, Records.listedOf, Records.modelOf, Verdict.judged, Count.countsOf, Decide.byVerdicts}
 use Rattle.rules.specs.{declared.records.KernelInput.KernelInput, declared.records.PolicySnapshot.PolicySnapshot}
 use Rattle.pricing.specs.{Pricing.pricingOf, declared.Pricing.Pricing}
-use Rattle.kernel_ranking.specs.{State.stateOf, State.startOf, Verdict.scanOf, declared.state.State.State}
+use Rattle.kernel_ranking.specs.{State.stateOf, State.startOf, After.scanOf, declared.state.State.State}
 use Rattle.kernel_ranking.proofs.{States.run-start, Verdicts.scan-run}
 use Rattle.kernel_scan.specs.Places.{placedFrom}
 use Rattle.bank.proofs.Listing.{length-listed}

@@ -4,7 +4,8 @@ use Rattle.rules.proofs.Kit.{ltb, ℤ, pos, negsuc, leZ}
 use Rattle.rules.specs.Choice.{lower, higher}
 use Rattle.rules.proofs.{Choices.lower-yes, Strict.Strict, Strict.before-through, Strict.numbers, Strict.turned, Strict.first, Strict.level-all}
 use Rattle.pricing_terms.specs.Score.{scored}
-use Rattle.kernel_ranking.specs.{State.heldOf, State.nobody, State.earlierOf, State.cheaperOf, State.betterOf, declared.state.Candidate.Candidate}
+use Rattle.kernel_verdict.specs.declared.Candidate.{Candidate}
+use Rattle.kernel_ranking.specs.State.{heldOf, nobody, earlierOf, cheaperOf, betterOf}
 use Rattle.rules.specs.Rank as rank
 
 pub clash : {b : Bool} {A : Type 0} → b ≡ true → b ≡ false → A

@@ -9,11 +9,10 @@ use Rattle.rules.proofs.{Reasons.reason-counted, Verdicts.gate-high, Counts.tot
 use Rattle.pricing.specs.{Pricing.pricingOf, declared.Pricing.Pricing}
 use Rattle.pricing_terms.specs.{Score.scored, Terms.termsWith, declared.ScoredTerms.ScoredTerms}
 use Rattle.pricing_terms.proofs.{Scores.scored-unscored, Scores.score-positive, Ruled.Ruled, Ruled.terms-rule}
-use Rattle.kernel_ranking.specs.{State.heldOf, State.enteredOf, Verdict.byScore, Verdict.verdictIn}
-use Rattle.kernel_ranking.specs.{Verdict.countedOf, Verdict.enteringOf, Verdict.stateAfter, Verdict.scanOf, declared.state.State.State}
-use Rattle.kernel_ranking.specs.{declared.verdict.Verdict.Verdict, declared.verdict.Verdict.the-variants.Rejected}
-use Rattle.kernel_ranking.specs.{declared.verdict.Verdict.the-variants.OverBudget, declared.verdict.Verdict.the-variants.NonPositive}
-use Rattle.kernel_ranking.specs.{declared.verdict.Verdict.the-variants.Eligible}
+use Rattle.kernel_verdict.specs.{Verdict.byScore, Verdict.verdictIn, Verdict.countedOf, Verdict.enteringOf, declared.Verdict.Verdict}
+use Rattle.kernel_verdict.specs.declared.Verdict.the-variants.{Rejected, OverBudget, NonPositive, Eligible}
+use Rattle.kernel_ranking.specs.State.{heldOf, enteredOf}
+use Rattle.kernel_ranking.specs.{After.stateAfter, After.scanOf, declared.state.State.State}
 use Rattle.kernel_ranking.proofs.States.{fold-sum}
 use Rattle.rules.specs.Numbers as numbers
 use Rattle.rules.specs.Verdict as rules

@@ -1,4 +1,4 @@
--- What a scan holds, the reason of the largest count, and what a record is told within a scan.
+-- What a scan holds, the reason of the largest count, and what a record's verdict does to what is held.
 pub mod State
 pub mod Reason
-pub mod Verdict
+pub mod After

@@ -9,7 +9,7 @@ use Rattle.rules.specs.Verdict.{Judged}
 use Rattle.rules.specs.Rank as rank
 use Rattle.rules.specs.Count.{countsOf}
 use Rattle.pricing_terms.specs.Score.{scored}
-use Rattle.kernel_ranking.specs.declared.state.Candidate.{Candidate}
+use Rattle.kernel_verdict.specs.declared.Candidate.{Candidate}
 use Rattle.kernel_ranking.specs.declared.state.Top.{Top}
 use Rattle.kernel_ranking.specs.declared.state.State.{State}
 

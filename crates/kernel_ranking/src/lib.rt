@@ -1,5 +1,4 @@
-// For other crates: what a scan holds between two records, and one record more: its verdict, the counts and the ranking.
+// For other crates: what a scan holds between two records, the ranking of one record more, and the reason of the largest count.
 pub mod rank;
 pub mod reason;
 pub mod state;
-pub mod verdict;

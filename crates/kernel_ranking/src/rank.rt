@@ -1,8 +1,8 @@
 // The ranking: higher utility, lower cost, higher quality, lower id, earlier place.
 ghost use mathlib.Core.Path.{_≡_};
 ghost use Rattle.kernel_ranking.specs.State.{earlierOf, cheaperOf, betterOf, rankedOf};
-use crate::state::Candidate;
 use crate::state::Top;
+use kernel_verdict::Candidate;
 
 // Lower id, then earlier place.
 fn is_earlier(left: Candidate, right: Candidate) -> bool

@@ -2,20 +2,10 @@
 ghost use mathlib.Core.Path.{_≡_};
 ghost use Rattle.rules.specs.Count.{noCounts};
 ghost use Rattle.kernel_ranking.specs.State.{nobody, startOf};
+use kernel_verdict::Candidate;
+use pricing_terms::ZERO_SCORE;
 use rules::RejectionHistogram;
 use rules::limits::NO_PLACE;
-
-// The score of a utility of 0.
-pub const ZERO_SCORE: u64 = 0x8000_0000_0000_0000;
-
-// What a model is ranked by. The utility is its score, 2^63 above it, so that unsigned numbers order it.
-pub struct Candidate {
-    pub model_id: u32,
-    pub model_index: u16,
-    pub quality_bps: u16,
-    pub cost: u64,
-    pub score: u64,
-}
 
 // The first two of the ranking. A place that nobody holds has the candidate `nobody`, below every eligible model.
 pub struct Top {

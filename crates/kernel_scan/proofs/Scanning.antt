@@ -3,8 +3,8 @@ use Rattle.rules.proofs.Kit.{ℕ, _+_, _/_, _<_, _≤_, add-one, arith, _≡_, 
 use Rattle.rules.specs.{Records.modelAt, Count.countsFrom, Count.countsOf, Count.total, declared.records.KernelModel.KernelModel}
 use Rattle.rules.specs.{declared.records.KernelInput.KernelInput}
 use Rattle.pricing.specs.declared.Pricing.{Pricing}
-use Rattle.kernel_ranking.specs.{State.stateOf, State.startOf, Verdict.verdictIn, Verdict.stateAfter, Verdict.scanOf, declared.state.State.State}
-use Rattle.kernel_ranking.specs.{declared.verdict.Verdict.Verdict}
+use Rattle.kernel_verdict.specs.{Verdict.verdictIn, declared.Verdict.Verdict}
+use Rattle.kernel_ranking.specs.{State.stateOf, State.startOf, After.stateAfter, After.scanOf, declared.state.State.State}
 use Rattle.kernel_scan.specs.{Scan.Room, Places.placedFrom}
 use Rattle.kernel_scan.proofs.Places.{length-placed, getD-placed}
 use Rattle.bank.proofs.Listing.{nowhere}

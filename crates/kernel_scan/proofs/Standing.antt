@@ -3,7 +3,7 @@ use Rattle.rules.proofs.Kit.{ℕ, _+_, _-_, _*_, arith, _≡_, refl, ap, _∙_,
 use Rattle.rules.specs.{Records.listed, Records.listedOf, Records.modelOf, Count.countsFrom, Count.countsOf, Count.total}
 use Rattle.rules.specs.{declared.records.KernelInput.KernelInput}
 use Rattle.pricing.specs.declared.Pricing.{Pricing}
-use Rattle.kernel_ranking.specs.{State.stateOf, State.startOf, Verdict.scanOf, declared.state.State.State}
+use Rattle.kernel_ranking.specs.{State.stateOf, State.startOf, After.scanOf, declared.state.State.State}
 use Rattle.kernel_scan.specs.{Scan.Room, Scan.StandsIn, Places.placedFrom}
 use Rattle.kernel_scan.proofs.Places.{length-placed, placed-set}
 use Rattle.kernel_ranking.proofs.Verdicts.{scan-append, scan-sum}

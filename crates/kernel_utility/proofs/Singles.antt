@@ -5,7 +5,7 @@ use Rattle.rules.specs.{Choice.equal, Records.listed, Records.modelAt, Refused.
 use Rattle.rules.specs.{Verdict.verdictOf, Order.sortedBy, Rank.candidateOf, Rank.better, Rank.ranking, Count.countsFrom, Count.countsOf, Decide.ifEligible}
 use Rattle.rules.specs.{declared.records.KernelModel.KernelModel, declared.records.KernelInput.KernelInput, declared.records.PolicySnapshot.PolicySnapshot}
 use Rattle.pricing.specs.{Pricing.pricingOf, declared.Pricing.Pricing}
-use Rattle.kernel_ranking.specs.{State.heldOf, State.topOf, State.stateOf, State.startOf, Verdict.scanOf, declared.state.State.State}
+use Rattle.kernel_ranking.specs.{State.heldOf, State.topOf, State.stateOf, State.startOf, After.scanOf, declared.state.State.State}
 use Rattle.kernel_scan.specs.{Scan.Room, Places.placedFrom}
 use Rattle.kernel_utility.specs.Single.{worthFrom}
 use Rattle.kernel_scan.proofs.Places.{placed-one}

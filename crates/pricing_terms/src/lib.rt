@@ -4,6 +4,7 @@
 mod worth;
 
 use rules::Wide;
+pub use worth::ZERO_SCORE;
 pub use worth::terms;
 pub use worth::terms_wide;
 pub use worth::utility_of;

@@ -18,7 +18,7 @@ use rules::UtilityTerms;
 use rules::Wide;
 
 // The score of a utility of 0: 2^63.
-const ZERO_SCORE: u64 = 0x8000_0000_0000_0000;
+pub const ZERO_SCORE: u64 = 0x8000_0000_0000_0000;
 
 const MAX_I64: u64 = 0x7fff_ffff_ffff_ffff;
 

@@ -5,12 +5,12 @@ use denote.Enum.Declared.{tagOf}
 use types.Run.{OneOf}
 use Rattle.rules.specs.declared.records.KernelModel.{KernelModel}
 use Rattle.kernel_scan.specs.Places.{placedFrom}
-use Rattle.kernel_ranking.specs.{State.enteredOf, Verdict.countedOf, Verdict.stateAfter, Verdict.scanOf, declared.state.State.State}
-use Rattle.kernel_ranking.specs.{declared.verdict.Verdict.Verdict, declared.verdict.Verdict.the-variants.Rejected}
-use Rattle.kernel_ranking.specs.{declared.verdict.Verdict.the-variants.OverBudget, declared.verdict.Verdict.the-variants.NonPositive}
-use Rattle.kernel_ranking.specs.{declared.verdict.Verdict.the-variants.Eligible}
+use Rattle.kernel_verdict.specs.{Verdict.countedOf, declared.Verdict.Verdict}
+use Rattle.kernel_verdict.specs.declared.Verdict.the-variants.{Rejected, OverBudget, NonPositive, Eligible}
+use Rattle.kernel_verdict.proofs.Verdict.{the-type}
+use Rattle.kernel_ranking.specs.{State.enteredOf, After.stateAfter, After.scanOf, declared.state.State.State}
 use Rattle.kernel_scan.proofs.{Scanning.scan-held, Scanning.scan-step, Scanning.scan-end, scan_on.Statement.statement}
-use Rattle.kernel_ranking.proofs.{Verdicts.scan-none, verdict.Verdict.the-type}
+use Rattle.kernel_ranking.proofs.Verdicts.{scan-none}
 use Rattle.kernel_scan.proofs.scan_on.Tie as tie
 
 abbrev Inv-loop : tie.InvT-loop

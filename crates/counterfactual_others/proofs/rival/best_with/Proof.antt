@@ -5,10 +5,10 @@ use types.Run.{OneOf}
 use Rattle.rules.specs.{declared.records.KernelModel.KernelModel, declared.records.KernelInput.KernelInput}
 use Rattle.pricing.specs.declared.Pricing.{Pricing}
 use Rattle.pricing_terms.specs.declared.ScoredTerms.{ScoredTerms}
-use Rattle.kernel_ranking.specs.{State.betterOf, Verdict.verdictIn, Verdict.enteringOf, declared.state.Candidate.Candidate, declared.verdict.Verdict.Verdict}
-use Rattle.kernel_ranking.specs.{declared.verdict.Verdict.the-variants.Rejected, declared.verdict.Verdict.the-variants.OverBudget}
-use Rattle.kernel_ranking.specs.{declared.verdict.Verdict.the-variants.NonPositive, declared.verdict.Verdict.the-variants.Eligible}
-use Rattle.kernel_ranking.proofs.verdict.Verdict.{the-type}
+use Rattle.kernel_verdict.specs.{Verdict.verdictIn, Verdict.enteringOf, declared.Candidate.Candidate, declared.Verdict.Verdict}
+use Rattle.kernel_verdict.specs.declared.Verdict.the-variants.{Rejected, OverBudget, NonPositive, Eligible}
+use Rattle.kernel_verdict.proofs.Verdict.{the-type}
+use Rattle.kernel_ranking.specs.State.{betterOf}
 use Rattle.counterfactual_others.specs.Others.{against, bestWith}
 use Rattle.counterfactual_others.proofs.rival.best_with.Statement.{statement}
 use Rattle.counterfactual_others.proofs.rival.best_with.Tie as tie

@@ -1,7 +1,7 @@
 -- `counterfactual_others::verdict_apart` meets its contract. Assumes nothing.
 use Rattle.rules.proofs.Kit.{sym, ap, _∙_, needs}
 use Rattle.rules.proofs.Choices.{below-yes, below-no}
-use Rattle.kernel_ranking.specs.Verdict.{byScore, verdictIn}
+use Rattle.kernel_verdict.specs.Verdict.{byScore, verdictIn}
 use Rattle.counterfactual_others.proofs.rival.verdict_apart.Statement.{statement}
 use Rattle.counterfactual_others.proofs.rival.verdict_apart.Tie as tie
 

@@ -1,7 +1,7 @@
 -- `explain_entries::candidate_verdict` meets its contract. Assumes nothing.
 use Rattle.rules.proofs.Kit.{sym, ap, _∙_, needs}
 use Rattle.rules.proofs.Choices.{below-yes, below-no}
-use Rattle.kernel_ranking.specs.Verdict.{byScore, verdictIn}
+use Rattle.kernel_verdict.specs.Verdict.{byScore, verdictIn}
 use Rattle.explain_entries.specs.Scanned.{scanned}
 use Rattle.explain_entries.proofs.verdict.candidate_verdict.Statement.{statement}
 use Rattle.explain_entries.proofs.verdict.candidate_verdict.Tie as tie

@@ -1,7 +1,7 @@
 -- `explain_entries::verdict_by_score` meets its contract. Assumes nothing.
 use Rattle.rules.proofs.Kit.{sym, ap, needs}
 use Rattle.rules.proofs.Choices.{below-yes, below-no}
-use Rattle.kernel_ranking.specs.Verdict.{byScore}
+use Rattle.kernel_verdict.specs.Verdict.{byScore}
 use Rattle.explain_entries.specs.Scanned.{scanned}
 use Rattle.explain_entries.proofs.verdict.verdict_by_score.Statement.{statement}
 use Rattle.explain_entries.proofs.verdict.verdict_by_score.Tie as tie

@@ -1,9 +1,9 @@
--- `kernel_ranking::by_score` meets its contract. Assumes nothing.
+-- `kernel_verdict::by_score` meets its contract. Assumes nothing.
 use Rattle.rules.proofs.Kit.{sym}
 use Rattle.rules.proofs.Choices.{below-yes, below-no}
-use Rattle.kernel_ranking.specs.Verdict.{byScore}
-use Rattle.kernel_ranking.proofs.verdict.by_score.Statement.{statement}
-use Rattle.kernel_ranking.proofs.verdict.by_score.Tie as tie
+use Rattle.kernel_verdict.specs.Verdict.{byScore}
+use Rattle.kernel_verdict.proofs.by_score.Statement.{statement}
+use Rattle.kernel_verdict.proofs.by_score.Tie as tie
 
 returns : tie.Need-returns
 unfolding byScore

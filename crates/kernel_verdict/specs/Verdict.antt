@@ -1,8 +1,6 @@
--- What one record is told within a scan, and what that does to the counts and the ranking.
+-- What one record is told within a scan, what that adds to the counts, and the model as it enters the ranking.
 use Prim.Native.Nat.{ℕ, _^_}
-use mathlib.Core.List.{List, foldl}
 use Rattle.rules.specs.Choice.{below}
-use Rattle.rules.specs.Records.{Listed}
 use Rattle.rules.specs.Gates.{gateOf}
 use Rattle.rules.specs.Price.{costOf}
 use Rattle.rules.specs.Count.{gateReason, raisedBy}
@@ -12,11 +10,9 @@ use Rattle.rules.specs.declared.decision.RejectionHistogram.{RejectionHistogram
 use Rattle.pricing.specs.declared.Pricing.{Pricing}
 use Rattle.pricing_terms.specs.Terms.{termsWith}
 use Rattle.pricing_terms.specs.declared.ScoredTerms.{ScoredTerms}
-use Rattle.kernel_ranking.specs.State.{enteredOf}
-use Rattle.kernel_ranking.specs.declared.state.Candidate.{Candidate}
-use Rattle.kernel_ranking.specs.declared.state.State.{State}
-use Rattle.kernel_ranking.specs.declared.verdict.Verdict.{Verdict}
-use Rattle.kernel_ranking.specs.declared.verdict.Verdict.the-variants.{Rejected, OverBudget, NonPositive, Eligible}
+use Rattle.kernel_verdict.specs.declared.Candidate.{Candidate}
+use Rattle.kernel_verdict.specs.declared.Verdict.{Verdict}
+use Rattle.kernel_verdict.specs.declared.Verdict.the-variants.{Rejected, OverBudget, NonPositive, Eligible}
 
 -- D19. The terms of a model whose cost is within the budget: 3 where the score is at most that of 0, else 4
 unfoldable pub byScore : ScoredTerms → Verdict
@@ -45,14 +41,3 @@ enteringOf m place t =
       cost = t .«cost_microunits»;
       score = t .score;
     }
-
--- One record more, by its verdict
-unfoldable pub stateAfter : State → ℕ → KernelModel → Verdict → State
-stateAfter s place m (Rejected gate) = record { counts = countedOf (s .counts) (Rejected gate); top = s .top; eligible = s .eligible }
-stateAfter s place m (OverBudget cost) = record { counts = countedOf (s .counts) (OverBudget cost); top = s .top; eligible = s .eligible }
-stateAfter s place m (NonPositive t) = record { counts = countedOf (s .counts) (NonPositive t); top = s .top; eligible = s .eligible }
-stateAfter s place m (Eligible t) = enteredOf s (enteringOf m place t)
-
--- The state after some listed records more, as the scan takes them
-unfoldable pub scanOf : Pricing → KernelInput → State → List Listed → State
-scanOf pr q s ls = foldl (λ s l. stateAfter s (l .place) (l .model) (verdictIn pr q (l .model))) s ls

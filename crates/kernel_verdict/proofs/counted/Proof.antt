@@ -1,8 +1,8 @@
--- `kernel_ranking::counted` meets its contract, arm by arm. Assumes nothing.
+-- `kernel_verdict::counted` meets its contract, arm by arm. Assumes nothing.
 use Rattle.rules.proofs.Kit.{needs}
-use Rattle.kernel_ranking.specs.Verdict.{countedOf}
-use Rattle.kernel_ranking.proofs.verdict.counted.Statement.{statement}
-use Rattle.kernel_ranking.proofs.verdict.counted.Tie as tie
+use Rattle.kernel_verdict.specs.Verdict.{countedOf}
+use Rattle.kernel_verdict.proofs.counted.Statement.{statement}
+use Rattle.kernel_verdict.proofs.counted.Tie as tie
 
 returns : tie.Need-returns
 unfolding countedOf

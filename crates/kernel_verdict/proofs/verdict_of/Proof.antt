@@ -1,9 +1,9 @@
--- `kernel_ranking::verdict_of` meets its contract. Assumes nothing.
+-- `kernel_verdict::verdict_of` meets its contract. Assumes nothing.
 use Rattle.rules.proofs.Kit.{sym, ap, _∙_, needs}
 use Rattle.rules.proofs.Choices.{below-yes, below-no}
-use Rattle.kernel_ranking.specs.Verdict.{byScore, verdictIn}
-use Rattle.kernel_ranking.proofs.verdict.verdict_of.Statement.{statement}
-use Rattle.kernel_ranking.proofs.verdict.verdict_of.Tie as tie
+use Rattle.kernel_verdict.specs.Verdict.{byScore, verdictIn}
+use Rattle.kernel_verdict.proofs.verdict_of.Statement.{statement}
+use Rattle.kernel_verdict.proofs.verdict_of.Tie as tie
 
 returns : tie.Need-returns
 unfolding verdictIn

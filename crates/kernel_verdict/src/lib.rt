@@ -1,14 +1,14 @@
-// What one record is told within a scan, the utility as its score.
+// For other crates: what one record is told within a scan, the utility as its score; what that adds to the counts, and the model as it
+// enters the ranking.
 ghost use mathlib.Core.Path.{_≡_};
 ghost use Prim.Native.Nat.{_<_};
 ghost use Rattle.rules.specs.Count.{total};
 ghost use Rattle.rules.specs.Limits.{maxCatalogModels};
 ghost use Rattle.pricing.specs.Pricing.{Settled};
-ghost use Rattle.kernel_ranking.specs.Verdict.{byScore, verdictIn, countedOf, enteringOf};
-use crate::state::Candidate;
-use crate::state::ZERO_SCORE;
+ghost use Rattle.kernel_verdict.specs.Verdict.{byScore, verdictIn, countedOf, enteringOf};
 use pricing::Pricing;
 use pricing_terms::ScoredTerms;
+use pricing_terms::ZERO_SCORE;
 use rules::KernelInput;
 use rules::KernelModel;
 use rules::RejectionHistogram;
@@ -19,6 +19,15 @@ pub enum Verdict {
     OverBudget(u64),
     NonPositive(ScoredTerms),
     Eligible(ScoredTerms),
+}
+
+// What a model is ranked by. The utility is its score, 2^63 above it, so that unsigned numbers order it.
+pub struct Candidate {
+    pub model_id: u32,
+    pub model_index: u16,
+    pub quality_bps: u16,
+    pub cost: u64,
+    pub score: u64,
 }
 
 // By the score: not positive, or eligible.

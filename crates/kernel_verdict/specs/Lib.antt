@@ -1,0 +1,2 @@
+-- What a record is told within a scan.
+pub mod Verdict
