@@ -1,2 +1,2 @@
--- What the exported functions that decide, explain and look up leave.
+-- What the exported functions that decide and explain leave.
 pub mod Calls

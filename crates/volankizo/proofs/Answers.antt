@@ -5,7 +5,8 @@ use Rattle.rules.specs.{Refused.firstFault, Printed.unitText, Printed.askText, 
 use Rattle.rules.proofs.Told.{Same, one-itself}
 use Rattle.export_checks.specs.Checks.{Lent, wordOf, checkFaults}
 use Rattle.export_forms.specs.Forms.{recordAtCall, writeStoredCall, readStoredCall, writeRequestCall, readRequestCall}
-use Rattle.export_calls.specs.Calls.{prescribeCall, prescribeCheckedCall, utilityCall, findCall, explainCall, nextCall}
+use Rattle.export_calls.specs.Calls.{prescribeCall, prescribeCheckedCall, explainCall}
+use Rattle.export_lookups.specs.Lookups.{utilityCall, findCall, nextCall}
 use Rattle.export_catalogue.specs.Catalogue.{validateFaults, trustCall}
 use Rattle.export_bounds.specs.Bounds.{winCall, marginCall}
 use Rattle.export_texts.specs.Texts.{textCall}

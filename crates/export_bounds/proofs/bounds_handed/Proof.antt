@@ -1,4 +1,4 @@
--- `export_calls::bounds_handed` meets its contract. Assumes nothing.
+-- `export_bounds::bounds_handed` meets its contract. Assumes nothing.
 use Rattle.rules.proofs.Kit.{refl, ap, needs}
 use Rattle.rules.specs.{Refused.toldOutcome, Numbers.toldBoundaries, declared.refusal.Outcome.Outcome}
 use Rattle.export_checks.proofs.Handed.{answer-refused, answer-delivered}

@@ -1,4 +1,4 @@
--- `export_calls::margin_delivered` meets its contract. Assumes nothing.
+-- `export_bounds::margin_delivered` meets its contract. Assumes nothing.
 use Rattle.rules.proofs.Kit.{ap, _∙_, arith, needs}
 use Rattle.rules.proofs.Faults.{none-told}
 use Rattle.export_checks.proofs.{Openings.opening-policy, Openings.opening-request, Openings.opening-room, Handed.tests-refused, Handed.tests-passed}

@@ -1,4 +1,4 @@
--- `export_calls::trust_delivered` meets its contract. Assumes nothing.
+-- `export_catalogue::trust_delivered` meets its contract. Assumes nothing.
 use Rattle.rules.proofs.Kit.{ap, _∙_, needs}
 use Rattle.rules.specs.{Refused.firstFault, Trust.trustOf, Trust.trustBank}
 use Rattle.export_checks.specs.Checks.{wordOf}

@@ -1,4 +1,4 @@
--- `export_calls::validate_delivered` meets its contract. Assumes nothing.
+-- `export_catalogue::validate_delivered` meets its contract. Assumes nothing.
 use Rattle.rules.proofs.Kit.{ap, _∙_, needs}
 use Rattle.rules.specs.{Refused.firstFault, Validate.validateOf}
 use Rattle.export_checks.specs.Checks.{wordOf}

@@ -1,9 +1,9 @@
--- `export_calls::next_delivered` meets its contract. Assumes nothing.
+-- `export_lookups::next_delivered` meets its contract. Assumes nothing.
 use Rattle.rules.proofs.Kit.{refl, needs}
 use Rattle.rules.proofs.Faults.{room-enough}
 use Rattle.export_checks.proofs.{Openings.room-first, Handed.first-handed, Handed.answer-delivered}
-use Rattle.export_calls.proofs.next_delivered.Statement.{statement}
-use Rattle.export_calls.proofs.next_delivered.Tie as tie
+use Rattle.export_lookups.proofs.next_delivered.Statement.{statement}
+use Rattle.export_lookups.proofs.next_delivered.Tie as tie
 
 returns : tie.Need-returns
 returns c = first-handed _ _ _ _ (room-first _ _ (c .before .if1 .taken)) (c .refusal-word .ensures)

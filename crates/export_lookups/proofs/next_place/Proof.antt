@@ -1,9 +1,9 @@
--- `export_calls::next_place` meets its contract. Assumes nothing.
+-- `export_lookups::next_place` meets its contract. Assumes nothing.
 use Rattle.rules.proofs.Kit.{sym, ap, _∙_, needs}
 use Rattle.rules.specs.Numbers.{toldNext}
-use Rattle.export_calls.specs.Calls.{nextOr}
-use Rattle.export_calls.proofs.next_place.Statement.{statement}
-use Rattle.export_calls.proofs.next_place.Tie as tie
+use Rattle.export_lookups.specs.Lookups.{nextOr}
+use Rattle.export_lookups.proofs.next_place.Statement.{statement}
+use Rattle.export_lookups.proofs.next_place.Tie as tie
 
 returns : tie.Need-returns
 returns c =

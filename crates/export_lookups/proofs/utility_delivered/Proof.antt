@@ -1,9 +1,9 @@
--- `export_calls::utility_delivered` meets its contract. Assumes nothing.
+-- `export_lookups::utility_delivered` meets its contract. Assumes nothing.
 use Rattle.rules.proofs.Kit.{_∙_, arith, needs}
 use Rattle.rules.proofs.Faults.{none-told}
 use Rattle.export_checks.proofs.{Openings.opening-policy, Openings.opening-request, Openings.opening-room, Handed.tests-refused, Handed.tests-passed}
-use Rattle.export_calls.proofs.utility_delivered.Statement.{statement}
-use Rattle.export_calls.proofs.utility_delivered.Tie as tie
+use Rattle.export_lookups.proofs.utility_delivered.Statement.{statement}
+use Rattle.export_lookups.proofs.utility_delivered.Tie as tie
 
 returns : tie.Need-returns
 returns c =

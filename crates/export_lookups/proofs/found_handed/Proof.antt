@@ -1,9 +1,9 @@
--- `export_calls::found_handed` meets its contract. Assumes nothing.
+-- `export_lookups::found_handed` meets its contract. Assumes nothing.
 use Rattle.rules.proofs.Kit.{refl, ap, needs}
 use Rattle.rules.specs.Numbers.{toldFound}
 use Rattle.export_checks.proofs.Handed.{delivered-so, answer-refused, answer-delivered}
-use Rattle.export_calls.proofs.found_handed.Statement.{statement}
-use Rattle.export_calls.proofs.found_handed.Tie as tie
+use Rattle.export_lookups.proofs.found_handed.Statement.{statement}
+use Rattle.export_lookups.proofs.found_handed.Tie as tie
 
 returns : tie.Need-returns
 returns c = answer-refused _ _ _ _ refl (ap toldFound (c .before .before .found .given .1)) (c .refusal-word .ensures)

@@ -1,9 +1,9 @@
--- `export_calls::utility_handed` meets its contract. Assumes nothing.
+-- `export_lookups::utility_handed` meets its contract. Assumes nothing.
 use Rattle.rules.proofs.Kit.{refl, ap, _∙_, w64, ofZ, toZ-ofZ, needs}
 use Rattle.rules.specs.Numbers.{toldUtility}
 use Rattle.export_checks.proofs.Handed.{answer-refused, answer-delivered}
-use Rattle.export_calls.proofs.utility_handed.Statement.{statement}
-use Rattle.export_calls.proofs.utility_handed.Tie as tie
+use Rattle.export_lookups.proofs.utility_handed.Statement.{statement}
+use Rattle.export_lookups.proofs.utility_handed.Tie as tie
 
 returns : tie.Need-returns
 returns c = answer-refused _ _ _ _ refl (ap toldUtility (c .before .before .found .given .1)) (c .refusal-word .ensures)

@@ -1,0 +1,2 @@
+-- What the exported functions that look something up leave.
+pub mod Lookups
