@@ -8,7 +8,7 @@ use Rattle.rules.specs.Refused.{Fault, Answer, refused, answered}
 use Rattle.rules.specs.Numbers.{Boundary}
 use Rattle.rules.specs.Win.{whatWouldWinOf}
 use Rattle.rules.specs.Margin.{decisionMarginOf}
-use Rattle.export_layout.specs.Layout.{boundarySize, boundaryBytes}
+use Rattle.export_boundaries.specs.Layout.{boundarySize, boundaryBytes}
 use Rattle.export_checks.specs.Checks.{Lent, openingFaults, handed}
 
 -- ---- `volankizo_what_would_win` and `volankizo_decision_margin`

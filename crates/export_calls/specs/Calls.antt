@@ -7,7 +7,7 @@ use Rattle.rules.specs.Refused.{unless, answered}
 use Rattle.rules.specs.Numbers.{DecisionAndTrace}
 use Rattle.rules.specs.Decide.{tracedOf}
 use Rattle.rules.specs.Explain.{explainOf, explainList}
-use Rattle.export_layout.specs.Layout.{uncountedSize, uncountedBytes, decisionSize, decisionBytes}
+use Rattle.export_decision.specs.Layout.{uncountedSize, uncountedBytes, decisionSize, decisionBytes}
 use Rattle.export_checks.specs.Checks.{Lent, openingFaults, checkedFaults, handed}
 
 -- ---- `volankizo_prescribe` and `volankizo_prescribe_checked`

@@ -1,0 +1,2 @@
+-- Laws of the bytes that go into a boundary call's answer.
+pub mod Rooms

@@ -1,0 +1,2 @@
+-- Where the numbers of a boundary call's answer stand.
+pub mod Layout

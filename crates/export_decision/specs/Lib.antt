@@ -1,0 +1,2 @@
+-- Where the numbers of a decision stand.
+pub mod Layout

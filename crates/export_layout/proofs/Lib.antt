@@ -1,3 +1,0 @@
--- Laws of the bytes that go into an answer.
-pub mod Bytes
-pub mod Rooms

@@ -1,2 +1,0 @@
--- Where the numbers of an answer stand.
-pub mod Layout
