@@ -1,2 +1,2 @@
 -- What a question is answered.
-pub mod Question
+pub mod Answer

@@ -1,17 +1,19 @@
 // The question from the desk. `ask ID` reads what the unit's program reads and prints the decision, the levers that would make the model
 // with that id win, and the passes; `ask ID words` says the same in plain English.
-mod question;
-
+ghost use mathlib.Core.Path.{_≡_};
 ghost use Prim.Native.Nat.{_≤_};
-ghost use lib.ListN.{length};
+ghost use lib.ListN.{length, take};
 ghost use Rattle.io.specs.Counts.{Counts};
-ghost use Rattle.program_report.specs.Sizes.{readBytes};
+ghost use Rattle.program_report.specs.Sizes.{readBytes, wordsBytes};
+ghost use Rattle.ask.specs.Answer.{answerText};
 use libc::STDERR_FILENO;
 use libc::STDIN_FILENO;
 use libc::STDOUT_FILENO;
+use program_question::Question;
+use program_question::question_of;
+use program_report::deliver::end_of;
 use program_report::sizes::INPUT_BYTES;
 use program_report::sizes::WORDS_BYTES;
-use question::Question;
 
 // Standard input, as far as an answer depends on it.
 fn read_input(buffer: &mut [u8]) -> usize
@@ -21,8 +23,30 @@ fn read_input(buffer: &mut [u8]) -> usize
     io::read_full(STDIN_FILENO, buffer)
 }
 
+// What the program's arguments ask.
+fn asked() -> Question {
+    let mut id = [0u8; 4096];
+    let mut form = [0u8; 4096];
+    let n = os::arg(1, &mut id);
+    let m = os::arg(2, &mut form);
+    question_of(os::arg_count(), &id[..n], &form[..m])
+}
+
+// The answer to a question: the first bytes of a buffer into which every text fits.
+fn answer(question: Question, input: &[u8], out: &mut [u8]) -> usize
+    requires { ⌜ wordsBytes ≤ length (now out) ⌝ }
+    ensures { λ r. ⌜ Counts r (now (out .exit)) ⌝ }
+    ensures { λ r. ⌜ take r (now (out .exit)) ≡ answerText question (now (input .entry)) ⌝ }
+{
+    match question {
+        Question::Lines(id) => end_of(program_report::ask_text(input, id, out)),
+        Question::Words(id) => end_of(program_words::ask_words(input, id, out)),
+        Question::Unclear => 0,
+    }
+}
+
 fn main() {
-    let question = question::asked();
+    let question = asked();
     if let Question::Unclear = question {
         io::write_all(
             STDERR_FILENO,
@@ -33,6 +57,6 @@ fn main() {
     let mut input = [0u8; INPUT_BYTES];
     let n = read_input(&mut input);
     let mut out = [0u8; WORDS_BYTES];
-    let end = question::answer(question, &input[..n], &mut out);
+    let end = answer(question, &input[..n], &mut out);
     io::write_all(STDOUT_FILENO, &out[..end]);
 }

@@ -1,9 +1,9 @@
--- `ask::question::about` meets its contract. The loop's invariant: what is left says the rest of the question. Assumes nothing.
+-- `program_question::about` meets its contract. The loop's invariant: what is left says the rest of the question. Assumes nothing.
 use Rattle.rules.proofs.Kit.{_≤_, _-_, _≡_, _∙_, sym, arith, length, needs}
-use Rattle.ask.specs.Question.{aboutOf}
-use Rattle.ask.proofs.{Questions.left, Questions.left-all, Questions.left-none, Questions.left-end, Questions.left-stops, Questions.left-next}
-use Rattle.ask.proofs.{Questions.left-over, question.about.Statement.statement}
-use Rattle.ask.proofs.question.about.Tie as tie
+use Rattle.program_question.specs.Question.{aboutOf}
+use Rattle.program_question.proofs.{Questions.left, Questions.left-all, Questions.left-none, Questions.left-end, Questions.left-stops, Questions.left-next}
+use Rattle.program_question.proofs.{Questions.left-over, about.Statement.statement}
+use Rattle.program_question.proofs.about.Tie as tie
 
 abbrev Inv-loop : tie.InvT-loop
 Inv-loop text id₀ i₀ id i = (i ≤ length text) × (id ≤ 4294967295) × (aboutOf text ≡ left text i id)

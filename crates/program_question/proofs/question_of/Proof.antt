@@ -1,10 +1,10 @@
--- `ask::question::question_of` meets its contract. Assumes nothing.
+-- `program_question::question_of` meets its contract. Assumes nothing.
 use Rattle.rules.proofs.Kit.{sym, _∙_, ap, needs}
 use Rattle.rules.specs.Text.{text}
-use Rattle.ask.specs.Question.{inWords}
-use Rattle.ask.proofs.{Questions.ask-alone, Questions.ask-others, Questions.ask-unclear, Questions.ask-words, Questions.differ}
-use Rattle.ask.proofs.{question.question_of.Statement.statement}
-use Rattle.ask.proofs.question.question_of.Tie as tie
+use Rattle.program_question.specs.Question.{inWords}
+use Rattle.program_question.proofs.{Questions.ask-alone, Questions.ask-others, Questions.ask-unclear, Questions.ask-words, Questions.differ}
+use Rattle.program_question.proofs.{question_of.Statement.statement}
+use Rattle.program_question.proofs.question_of.Tie as tie
 
 returns-2 : tie.Need-returns-2
 returns-2 c = sym (ask-others _ _ _ (c .before .if1 .left) (c .if2 .taken))

@@ -1,4 +1,4 @@
--- What the arguments ask, and the text that answers it.
+-- What the arguments ask.
 use Prim.Native.Nat.{ℕ, _+_, _*_, _-_}
 use mathlib.Core.Bool.{Bool, true, false}
 use mathlib.Core.List.{List, [], _∷_}
@@ -6,10 +6,8 @@ use mathlib.Core.Option.{Option, none, some}
 use lib.Dec.{eqb}
 use Rattle.rules.specs.Choice.{below, equal, pick}
 use Rattle.rules.specs.Text.{text}
-use Rattle.rules.specs.Printed.{askText}
-use Rattle.rules.specs.Words.{askWords}
-use Rattle.ask.specs.declared.question.Question.{Question}
-use Rattle.ask.specs.declared.question.Question.the-variants.{Lines, Words, Unclear}
+use Rattle.program_question.specs.declared.Question.{Question}
+use Rattle.program_question.specs.declared.Question.the-variants.{Lines, Words, Unclear}
 
 -- The number that decimal digits say, after digits that said one already; none where some byte is no digit
 unfoldable pub numberAfter : ℕ → List ℕ → Option ℕ
@@ -44,9 +42,3 @@ unfoldable pub questionOf : ℕ → List ℕ → List ℕ → Question
 questionOf count first second =
     equal count 2 (aboutOf first)
     (equal count 3 (pick (sameText second (text "words")) (λ _. inWords (aboutOf first)) (λ _. Unclear)) Unclear)
-
--- An id's lines, or its sentences; an unclear question has no answer
-unfoldable pub answerText : Question → List ℕ → List ℕ
-answerText (Lines id) input = askText id input
-answerText (Words id) input = askWords id input
-answerText Unclear input = []

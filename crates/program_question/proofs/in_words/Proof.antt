@@ -1,8 +1,8 @@
--- `ask::question::in_words` meets its contract. Assumes nothing.
+-- `program_question::in_words` meets its contract. Assumes nothing.
 use Rattle.rules.proofs.Kit.{needs}
-use Rattle.ask.specs.Question.{inWords}
-use Rattle.ask.proofs.question.in_words.Statement.{statement}
-use Rattle.ask.proofs.question.in_words.Tie as tie
+use Rattle.program_question.specs.Question.{inWords}
+use Rattle.program_question.proofs.in_words.Statement.{statement}
+use Rattle.program_question.proofs.in_words.Tie as tie
 
 returns : tie.Need-returns
 unfolding inWords

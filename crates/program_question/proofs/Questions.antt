@@ -3,9 +3,9 @@ use Rattle.rules.proofs.Kit.{ℕ, suc, _+_, _*_, _-_, _≤_, _<_, _≡_, refl, 
 use Rattle.rules.proofs.Kit.{eqb-true, eqb, length, getD, drop, drop-cons, drop-length}
 use Rattle.rules.specs.{Choice.below, Choice.equal, Choice.pick, Text.text}
 use Rattle.rules.proofs.{Orders.lt-or-le, Choices.below-yes, Choices.below-no, Choices.equal-yes, Choices.equal-no}
-use Rattle.ask.specs.{Question.numberAfter, Question.idOrUnclear, Question.aboutOf, Question.inWords, Question.sameText, Question.questionOf}
-use Rattle.ask.specs.{declared.question.Question.Question, declared.question.Question.the-variants.Lines, declared.question.Question.the-variants.Words}
-use Rattle.ask.specs.{declared.question.Question.the-variants.Unclear}
+use Rattle.program_question.specs.{Question.numberAfter, Question.idOrUnclear, Question.aboutOf, Question.inWords, Question.sameText, Question.questionOf}
+use Rattle.program_question.specs.{declared.Question.Question, declared.Question.the-variants.Lines, declared.Question.the-variants.Words}
+use Rattle.program_question.specs.{declared.Question.the-variants.Unclear}
 
 -- A DIGIT goes to the end of the number
 pub digit-next : (n b : ℕ) (bs : List ℕ) → 48 ≤ b → b ≤ 57 → numberAfter n (b ∷ bs) ≡ numberAfter (n * 10 + (b - 48)) bs

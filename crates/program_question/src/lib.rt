@@ -1,14 +1,10 @@
-// What the program's arguments ask.
+// For `ask`: what the arguments of the question from the desk ask. `question_of` asks nothing of its caller.
 ghost use mathlib.Core.Path.{_≡_};
-ghost use Prim.Native.Nat.{_-_, _≤_};
+ghost use Prim.Native.Nat.{_-_};
 ghost use Rattle.rules.specs.Choice.{below};
-ghost use lib.ListN.{length, take};
-ghost use Rattle.io.specs.Counts.{Counts};
-ghost use Rattle.program_report.specs.Sizes.{wordsBytes};
-ghost use Rattle.ask.specs.Question.{aboutOf, inWords, questionOf, answerText};
-use program_report::deliver::end_of;
+ghost use Rattle.program_question.specs.Question.{aboutOf, inWords, questionOf};
 
-pub(crate) enum Question {
+pub enum Question {
     // An id alone.
     Lines(u32),
     // An id and `words`.
@@ -65,7 +61,7 @@ fn in_words(question: Question) -> Question
 }
 
 // What so many arguments ask, the program's name counted among them, of which these are the two after it.
-fn question_of(count: usize, first: &[u8], second: &[u8]) -> Question
+pub fn question_of(count: usize, first: &[u8], second: &[u8]) -> Question
     ensures { λ r. ⌜ r ≡ questionOf count (now (first .entry)) (now (second .entry)) ⌝ }
 {
     if count == 2 {
@@ -78,26 +74,4 @@ fn question_of(count: usize, first: &[u8], second: &[u8]) -> Question
         return in_words(about(first));
     }
     Question::Unclear
-}
-
-// What the program's arguments ask.
-pub(crate) fn asked() -> Question {
-    let mut id = [0u8; 4096];
-    let mut form = [0u8; 4096];
-    let n = os::arg(1, &mut id);
-    let m = os::arg(2, &mut form);
-    question_of(os::arg_count(), &id[..n], &form[..m])
-}
-
-// The answer to a question: the first bytes of a buffer into which every text fits.
-pub(crate) fn answer(question: Question, input: &[u8], out: &mut [u8]) -> usize
-    requires { ⌜ wordsBytes ≤ length (now out) ⌝ }
-    ensures { λ r. ⌜ Counts r (now (out .exit)) ⌝ }
-    ensures { λ r. ⌜ take r (now (out .exit)) ≡ answerText question (now (input .entry)) ⌝ }
-{
-    match question {
-        Question::Lines(id) => end_of(program_report::ask_text(input, id, out)),
-        Question::Words(id) => end_of(program_words::ask_words(input, id, out)),
-        Question::Unclear => 0,
-    }
 }

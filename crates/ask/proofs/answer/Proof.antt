@@ -1,9 +1,9 @@
--- `ask::question::answer` meets its contract. Assumes nothing.
+-- `ask::answer` meets its contract. Assumes nothing.
 use Rattle.rules.proofs.Kit.{refl, arith, needs}
-use Rattle.ask.specs.Question.{answerText}
+use Rattle.ask.specs.Answer.{answerText}
 use Rattle.program_report.proofs.Answers.{printed-counts, printed-whole}
-use Rattle.ask.proofs.question.answer.Statement.{statement}
-use Rattle.ask.proofs.question.answer.Tie as tie
+use Rattle.ask.proofs.answer.Statement.{statement}
+use Rattle.ask.proofs.answer.Tie as tie
 
 returns : tie.Need-returns
 unfolding answerText

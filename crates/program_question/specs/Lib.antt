@@ -1,0 +1,2 @@
+-- What the arguments ask.
+pub mod Question
