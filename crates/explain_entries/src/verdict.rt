@@ -7,7 +7,7 @@ ghost use Rattle.pricing.specs.Pricing.{Settled};
 ghost use Rattle.kernel_verdict.specs.Verdict.{byScore, verdictIn};
 ghost use Rattle.explain_entries.specs.Scanned.{scanned};
 use gates::first_failed_gate;
-use gates::gate_detail;
+use gates_told::gate_detail;
 use pricing::Pricing;
 use pricing_terms::ScoredTerms;
 use pricing_terms::ZERO_SCORE;

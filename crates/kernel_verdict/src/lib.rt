@@ -63,9 +63,9 @@ pub fn counted(counts: RejectionHistogram, verdict: Verdict) -> RejectionHistogr
     ensures { λ r. ⌜ r ≡ countedOf counts verdict ⌝ }
 {
     match verdict {
-        Verdict::Rejected(gate) => gates::raised(counts, gate),
-        Verdict::OverBudget(_) => gates::raised_for_budget(counts),
-        Verdict::NonPositive(_) => gates::raised_for_utility(counts),
+        Verdict::Rejected(gate) => gates_told::raised(counts, gate),
+        Verdict::OverBudget(_) => gates_told::raised_for_budget(counts),
+        Verdict::NonPositive(_) => gates_told::raised_for_utility(counts),
         Verdict::Eligible(_) => counts,
     }
 }
