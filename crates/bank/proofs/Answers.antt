@@ -1,7 +1,7 @@
 -- ANY TWO PERMITTED ANSWERS ARE EQUAL, for each call that a user makes. Assumes nothing.
 use Rattle.rules.proofs.Kit.{ℕ, _+_, _≡_, sym, _∙_, List, RefT, now, ptr}
-use Rattle.rules.specs.{Records.modelOf, Records.inputOf, Records.policyOf, Refused.toldOutcome, Listing.readingOf, Listing.recordOf, Listing.recordStart}
-use Rattle.rules.proofs.Told.{Same, one-itself, one-outcome}
+use Rattle.rules.specs.{Refused.toldOutcome, Listing.readingOf, Listing.recordOf, Listing.recordStart}
+use Rattle.rules.proofs.Told.{Same, one-outcome}
 
 pub one-reading : (bank : List ℕ) (place : ℕ) → Same toldOutcome (readingOf bank place)
 one-reading bank place = one-outcome _
@@ -14,13 +14,3 @@ Handed bank place r = (now r ≡ recordOf (now bank) place) × (ptr r ≡ (ptr b
 -- the name by which proofs follow the bytes, which no program sees
 pub one-record : (bank : RefT (List ℕ)) (place : ℕ) (r s : RefT (List ℕ)) → Handed bank place r → Handed bank place s → (now r ≡ now s) × (ptr r ≡ ptr s)
 one-record bank place r s p q = (p .0 ∙ sym (q .0), p .1 ∙ sym (q .1))
-
-module _ (bytes : List ℕ) where
-  pub one-model : Same (λ r. r) (modelOf bytes)
-  one-model = one-itself _
-
-  pub one-input : Same (λ r. r) (inputOf bytes)
-  one-input = one-itself _
-
-  pub one-policy : Same (λ r. r) (policyOf bytes)
-  one-policy = one-itself _

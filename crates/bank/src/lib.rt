@@ -1,5 +1,5 @@
-// The records of a bank, read at their places, and the models, requests and policies that bytes say. Every layout is packed: each field starts
-// where the one before it ends. What is passed on here asks nothing of its caller; `unchecked` is for other crates.
+// The records of a bank, read at their places; passed on, the models, requests and policies that bytes say. What is passed on here asks nothing
+// of its caller; `unchecked` is for other crates.
 ghost use mathlib.Core.Path.{_≡_};
 ghost use Prim.Native.Nat.{_+_, _≤_};
 ghost use lib.ListN.{length, take, drop};
@@ -12,11 +12,10 @@ use rules::limits::MAX_CATALOG_MODELS;
 use rules::limits::RECORD_BYTES;
 
 pub mod unchecked;
-mod whole;
 
-pub use whole::input_from;
-pub use whole::model_from;
-pub use whole::policy_from;
+pub use bank_fields::input_from;
+pub use bank_fields::model_from;
+pub use bank_fields::policy_from;
 
 // Whether the record at a place can be read, and if not, why: 1, 2 or 8, in this order.
 pub fn reading(bank: &[u8], place: usize) -> Outcome

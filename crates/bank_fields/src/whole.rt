@@ -1,9 +1,9 @@
 // A model, a request and a policy from an array of exactly their bytes: what users call, since nothing is asked of it.
 ghost use mathlib.Core.Path.{_≡_};
 ghost use Rattle.rules.specs.Records.{modelOf, inputOf, policyOf};
-use crate::unchecked::input_of;
-use crate::unchecked::model_of;
-use crate::unchecked::policy_of;
+use crate::input_of;
+use crate::model_of;
+use crate::policy_of;
 use rules::KernelInput;
 use rules::KernelModel;
 use rules::PolicySnapshot;

@@ -1,0 +1,2 @@
+-- That a call has one permitted answer.
+pub mod Answers
