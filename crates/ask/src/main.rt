@@ -4,16 +4,16 @@ ghost use mathlib.Core.Path.{_≡_};
 ghost use Prim.Native.Nat.{_≤_};
 ghost use lib.ListN.{length, take};
 ghost use Rattle.io.specs.Counts.{Counts};
-ghost use Rattle.program_report.specs.Sizes.{readBytes, wordsBytes};
+ghost use Rattle.program_deliver.specs.Sizes.{readBytes, wordsBytes};
 ghost use Rattle.ask.specs.Answer.{answerText};
 use libc::STDERR_FILENO;
 use libc::STDIN_FILENO;
 use libc::STDOUT_FILENO;
+use program_deliver::end_of;
+use program_deliver::sizes::INPUT_BYTES;
+use program_deliver::sizes::WORDS_BYTES;
 use program_question::Question;
 use program_question::question_of;
-use program_report::deliver::end_of;
-use program_report::sizes::INPUT_BYTES;
-use program_report::sizes::WORDS_BYTES;
 
 // Standard input, as far as an answer depends on it.
 fn read_input(buffer: &mut [u8]) -> usize
@@ -39,7 +39,7 @@ fn answer(question: Question, input: &[u8], out: &mut [u8]) -> usize
     ensures { λ r. ⌜ take r (now (out .exit)) ≡ answerText question (now (input .entry)) ⌝ }
 {
     match question {
-        Question::Lines(id) => end_of(program_report::ask_text(input, id, out)),
+        Question::Lines(id) => end_of(program_ask::ask_text(input, id, out)),
         Question::Words(id) => end_of(program_words::ask_words(input, id, out)),
         Question::Unclear => 0,
     }

@@ -5,7 +5,7 @@ use crate::marks::MARK;
 use crate::marks::REFUSED;
 use crate::marks::settled;
 use endian::u64_at;
-use program_report::ask_text;
+use program_ask::ask_text;
 use program_report::unit_text;
 use program_words::ask_words;
 use rules::Written;

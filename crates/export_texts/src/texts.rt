@@ -1,7 +1,7 @@
 // Printed texts, each with its length before it.
 use export_checks::hand_u64;
 use export_checks::refusal_word;
-use program_report::ask_text;
+use program_ask::ask_text;
 use program_report::unit_text;
 use program_words::ask_words;
 use rules::Refusal;

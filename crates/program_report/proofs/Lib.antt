@@ -1,5 +1,4 @@
--- Laws of the answers in lines, which callers cite.
+-- Laws of the unit's report, which callers cite.
 pub mod Reports
-pub mod Asks
 pub mod Answers
 pub mod Prefixes

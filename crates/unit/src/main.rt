@@ -5,12 +5,12 @@ ghost use Prim.Native.Nat.{_≤_};
 ghost use lib.ListN.{length, take};
 ghost use Rattle.io.specs.Counts.{Counts};
 ghost use Rattle.rules.specs.Printed.{unitText};
-ghost use Rattle.program_report.specs.Sizes.{readBytes, unitBytes};
+ghost use Rattle.program_deliver.specs.Sizes.{readBytes, unitBytes};
 use libc::STDIN_FILENO;
 use libc::STDOUT_FILENO;
-use program_report::deliver::end_of;
-use program_report::sizes::INPUT_BYTES;
-use program_report::sizes::UNIT_BYTES;
+use program_deliver::end_of;
+use program_deliver::sizes::INPUT_BYTES;
+use program_deliver::sizes::UNIT_BYTES;
 
 // Standard input, as far as an answer depends on it.
 fn read_input(buffer: &mut [u8]) -> usize

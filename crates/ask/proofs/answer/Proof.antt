@@ -1,7 +1,7 @@
 -- `ask::answer` meets its contract. Assumes nothing.
 use Rattle.rules.proofs.Kit.{refl, arith, needs}
 use Rattle.ask.specs.Answer.{answerText}
-use Rattle.program_report.proofs.Answers.{printed-counts, printed-whole}
+use Rattle.program_deliver.proofs.Answers.{printed-counts, printed-whole}
 use Rattle.ask.proofs.answer.Statement.{statement}
 use Rattle.ask.proofs.answer.Tie as tie
 

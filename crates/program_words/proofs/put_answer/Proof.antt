@@ -5,7 +5,7 @@ use Rattle.rules.specs.{Records.listedOf, Listing.firstListed, Printed.askFault
 use Rattle.splice.proofs.Pieces.{written, promised-as}
 use Rattle.program_input.specs.Formed.{Formed}
 use Rattle.program_input.proofs.Tests.{program-formed, bank-few}
-use Rattle.program_report.proofs.Asks.{asking-passed, win-told}
+use Rattle.program_ask.proofs.Asks.{asking-passed, win-told}
 use Rattle.program_words.proofs.put_answer.Statement.{statement}
 use Rattle.program_words.proofs.put_answer.Tie as tie
 

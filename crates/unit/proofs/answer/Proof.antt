@@ -1,7 +1,7 @@
 -- `unit::answer` meets its contract. Assumes nothing.
 use Rattle.rules.proofs.Kit.{_≤_, arith, now, length, needs}
 use Rattle.rules.specs.Printed.{unitText}
-use Rattle.program_report.proofs.Answers.{printed-counts, printed-whole}
+use Rattle.program_deliver.proofs.Answers.{printed-counts, printed-whole}
 use Rattle.unit.proofs.answer.Statement.{statement}
 use Rattle.unit.proofs.answer.Tie as tie
 

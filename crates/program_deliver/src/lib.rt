@@ -1,9 +1,11 @@
-// A text that is made, handed over.
+// For other crates: a text that is made, handed over; where it ends. `sizes` has the rooms that suffice.
+pub mod sizes;
+
 ghost use mathlib.Core.Path.{_≡_};
 ghost use lib.ListN.{length};
 ghost use Rattle.rules.specs.Numbers.{toldWritten};
 ghost use Rattle.rules.specs.Printed.{printOf, printBuffer};
-ghost use Rattle.program_report.specs.Ends.{endOf};
+ghost use Rattle.program_deliver.specs.Ends.{endOf};
 use rules::Refusal;
 use rules::Written;
 use splice::put_bytes;

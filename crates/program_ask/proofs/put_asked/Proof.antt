@@ -1,9 +1,9 @@
--- `program_report::ask::put_asked` meets its contract. Assumes nothing.
+-- `program_ask::put_asked` meets its contract. Assumes nothing.
 use Rattle.rules.proofs.Kit.{needs}
 use Rattle.rules.specs.{Text.text, Printed.passesLine, Printed.askReport}
 use Rattle.splice.proofs.Pieces.{written-then, written, promised}
-use Rattle.program_report.proofs.ask.put_asked.Statement.{statement}
-use Rattle.program_report.proofs.ask.put_asked.Tie as tie
+use Rattle.program_ask.proofs.put_asked.Statement.{statement}
+use Rattle.program_ask.proofs.put_asked.Tie as tie
 
 returns : tie.Need-returns
 unfolding askReport passesLine text

@@ -1,12 +1,12 @@
--- `program_report::ask::put_ask` meets its contract. Assumes nothing.
+-- `program_ask::put_ask` meets its contract. Assumes nothing.
 use Rattle.rules.proofs.Kit.{_≡_, ap, _∙_, sym, [], now, needs}
 use Rattle.rules.proofs.Faults.{none-told, unless-none, unless-refused}
 use Rattle.rules.specs.{Numbers.Boundary, Printed.askFaults, Printed.askReport, Printed.askText, Printed.refusedLine}
 use Rattle.splice.proofs.Pieces.{written, promised-as}
 use Rattle.program_input.specs.Formed.{Formed}
 use Rattle.program_input.proofs.Tests.{program-formed}
-use Rattle.program_report.proofs.{Asks.asking-passed, Asks.win-told, ask.put_ask.Statement.statement}
-use Rattle.program_report.proofs.ask.put_ask.Tie as tie
+use Rattle.program_ask.proofs.{Asks.asking-passed, Asks.win-told, put_ask.Statement.statement}
+use Rattle.program_ask.proofs.put_ask.Tie as tie
 
 returns : tie.Need-returns
 unfolding askText

@@ -1,10 +1,10 @@
--- `program_report::ask::ask_outcome` meets its contract. Assumes nothing.
+-- `program_ask::ask_outcome` meets its contract. Assumes nothing.
 use Rattle.rules.proofs.Kit.{_≡_, [], now, needs}
 use Rattle.rules.proofs.Faults.{none-told}
 use Rattle.rules.specs.Printed.{programFaults}
 use Rattle.program_input.proofs.Tests.{program-formed, bank-few}
-use Rattle.program_report.proofs.{Asks.asking-refused, Asks.asking-listed, Asks.asking-unlisted, Asks.asking-never, ask.ask_outcome.Statement.statement}
-use Rattle.program_report.proofs.ask.ask_outcome.Tie as tie
+use Rattle.program_ask.proofs.{Asks.asking-refused, Asks.asking-listed, Asks.asking-unlisted, Asks.asking-never, ask_outcome.Statement.statement}
+use Rattle.program_ask.proofs.ask_outcome.Tie as tie
 
 returns : tie.Need-returns
 returns c = asking-refused _ _ (c .before .outcome .given .1) (c .before .before .before .program-outcome .ensures)

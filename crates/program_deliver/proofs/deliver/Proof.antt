@@ -1,11 +1,11 @@
--- `program_report::deliver::deliver` meets its contract. Assumes nothing.
+-- `program_deliver::deliver` meets its contract. Assumes nothing.
 use Rattle.rules.proofs.Kit.{refl, _∙_, needs}
 use Rattle.rules.specs.Printed.{printOf, printBuffer}
 use Rattle.splice.proofs.Pieces.{patched-start}
 use Rattle.rules.proofs.Faults.{room-enough, room-short}
 use Rattle.stored_fields.proofs.Buffers.{stays}
-use Rattle.program_report.proofs.deliver.deliver.Statement.{statement}
-use Rattle.program_report.proofs.deliver.deliver.Tie as tie
+use Rattle.program_deliver.proofs.deliver.Statement.{statement}
+use Rattle.program_deliver.proofs.deliver.Tie as tie
 
 returns : tie.Need-returns
 unfolding printOf printBuffer

@@ -1,9 +1,9 @@
--- `program_report::unit::put_report` meets its contract. Assumes nothing.
+-- `program_report::put_report` meets its contract. Assumes nothing.
 use Rattle.rules.proofs.Kit.{needs}
 use Rattle.splice.proofs.Pieces.{written-then, written, promised-as}
 use Rattle.program_report.proofs.{Reports.traced-never, Reports.traced-decision, Reports.traced-counts, Reports.margin-told, Reports.report-joins}
-use Rattle.program_report.proofs.{unit.put_report.Statement.statement}
-use Rattle.program_report.proofs.unit.put_report.Tie as tie
+use Rattle.program_report.proofs.{put_report.Statement.statement}
+use Rattle.program_report.proofs.put_report.Tie as tie
 
 returns : tie.Need-returns
 returns c =

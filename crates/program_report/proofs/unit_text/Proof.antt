@@ -1,9 +1,9 @@
--- `program_report::unit::unit_text` meets its contract. Assumes nothing.
+-- `program_report::unit_text` meets its contract. Assumes nothing.
 use Rattle.rules.proofs.Kit.{ap, _∙_, ℕ, List, now, length, arith, needs}
 use Rattle.rules.specs.Printed.{printOf, printBuffer}
 use Rattle.splice.proofs.Pieces.{written-front, written}
-use Rattle.program_report.proofs.unit.unit_text.Statement.{statement}
-use Rattle.program_report.proofs.unit.unit_text.Tie as tie
+use Rattle.program_report.proofs.unit_text.Statement.{statement}
+use Rattle.program_report.proofs.unit_text.Tie as tie
 
 array-share-prefix-space : tie.Need-array-share-prefix-space
 array-share-prefix-space c =

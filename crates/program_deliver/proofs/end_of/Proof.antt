@@ -1,8 +1,8 @@
--- `program_report::deliver::end_of` meets its contract. Assumes nothing.
+-- `program_deliver::end_of` meets its contract. Assumes nothing.
 use Rattle.rules.proofs.Kit.{needs}
-use Rattle.program_report.specs.Ends.{endOf}
-use Rattle.program_report.proofs.deliver.end_of.Statement.{statement}
-use Rattle.program_report.proofs.deliver.end_of.Tie as tie
+use Rattle.program_deliver.specs.Ends.{endOf}
+use Rattle.program_deliver.proofs.end_of.Statement.{statement}
+use Rattle.program_deliver.proofs.end_of.Tie as tie
 
 returns : tie.Need-returns
 unfolding endOf

@@ -1,11 +1,11 @@
--- `program_report::unit::put_unit` meets its contract. Assumes nothing.
+-- `program_report::put_unit` meets its contract. Assumes nothing.
 use Rattle.rules.proofs.Kit.{_≡_, _∙_, sym, [], now, needs}
 use Rattle.rules.proofs.Faults.{none-told, unless-none, unless-refused}
 use Rattle.rules.specs.{Records.listedOf, Printed.unitReport, Printed.unitText, Printed.programFaults, Printed.refusedLine}
 use Rattle.splice.proofs.Pieces.{written, promised-as}
 use Rattle.program_input.proofs.Tests.{program-formed, bank-whole}
-use Rattle.program_report.proofs.unit.put_unit.Statement.{statement}
-use Rattle.program_report.proofs.unit.put_unit.Tie as tie
+use Rattle.program_report.proofs.put_unit.Statement.{statement}
+use Rattle.program_report.proofs.put_unit.Tie as tie
 
 returns : tie.Need-returns
 unfolding unitText

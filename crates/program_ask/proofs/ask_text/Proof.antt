@@ -1,9 +1,9 @@
--- `program_report::ask::ask_text` meets its contract. Assumes nothing.
+-- `program_ask::ask_text` meets its contract. Assumes nothing.
 use Rattle.rules.proofs.Kit.{ℕ, ap, _∙_, List, arith, now, length, needs}
 use Rattle.rules.specs.Printed.{printOf, printBuffer}
 use Rattle.splice.proofs.Pieces.{written-front, written}
-use Rattle.program_report.proofs.ask.ask_text.Statement.{statement}
-use Rattle.program_report.proofs.ask.ask_text.Tie as tie
+use Rattle.program_ask.proofs.ask_text.Statement.{statement}
+use Rattle.program_ask.proofs.ask_text.Tie as tie
 
 array-share-prefix-space : tie.Need-array-share-prefix-space
 array-share-prefix-space c =

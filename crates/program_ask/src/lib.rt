@@ -1,17 +1,18 @@
-// The question from the desk: what would make a model win, in the unit program's lines.
+// The question from the desk: what would make a model win, in the unit program's lines, as a call on slices, `ask_text`, which asks nothing of
+// its caller. `ask_outcome` is for other crates.
 ghost use mathlib.Core.Path.{_≡_};
 ghost use Prim.Native.Nat.{_≤_};
 ghost use lib.ListN.{length};
 ghost use Rattle.rules.specs.Refused.{firstFault, toldOutcome};
 ghost use Rattle.rules.specs.Numbers.{toldWritten, toldBoundaries};
 ghost use Rattle.rules.specs.Printed.{askFaults, askReport, askText, printOf, printBuffer};
-ghost use Rattle.program_report.specs.Sizes.{askBytes};
+ghost use Rattle.program_deliver.specs.Sizes.{askBytes};
 ghost use mathlib.Core.Option.{some};
 ghost use Rattle.splice.specs.Placed.{placed};
-use crate::deliver::deliver;
-use crate::sizes::ASK_BYTES;
 use call_checks::listing::first_listed;
 use counterfactual::what_would_win;
+use program_deliver::deliver;
+use program_deliver::sizes::ASK_BYTES;
 use program_input::bank_in;
 use program_input::policy_in;
 use program_input::program_outcome;

@@ -1,0 +1,3 @@
+-- Laws of texts that are handed over, which callers cite.
+pub mod Answers
+pub mod Prefixes
