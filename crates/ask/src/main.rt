@@ -12,7 +12,7 @@ use libc::STDOUT_FILENO;
 use program_deliver::end_of;
 use program_deliver::sizes::INPUT_BYTES;
 use program_deliver::sizes::WORDS_BYTES;
-use program_question::Question;
+use program_question::DeskQuestion;
 use program_question::question_of;
 
 // Standard input, as far as an answer depends on it.
@@ -24,7 +24,7 @@ fn read_input(buffer: &mut [u8]) -> usize
 }
 
 // What the program's arguments ask.
-fn asked() -> Question {
+fn asked() -> DeskQuestion {
     let mut id = [0u8; 4096];
     let mut form = [0u8; 4096];
     let n = os::arg(1, &mut id);
@@ -33,21 +33,21 @@ fn asked() -> Question {
 }
 
 // The answer to a question: the first bytes of a buffer into which every text fits.
-fn answer(question: Question, input: &[u8], out: &mut [u8]) -> usize
+fn answer(question: DeskQuestion, input: &[u8], out: &mut [u8]) -> usize
     requires { ⌜ wordsBytes ≤ length (now out) ⌝ }
     ensures { λ r. ⌜ Counts r (now (out .exit)) ⌝ }
     ensures { λ r. ⌜ take r (now (out .exit)) ≡ answerText question (now (input .entry)) ⌝ }
 {
     match question {
-        Question::Lines(id) => end_of(program_ask::ask_text(input, id, out)),
-        Question::Words(id) => end_of(program_words::ask_words(input, id, out)),
-        Question::Unclear => 0,
+        DeskQuestion::Lines(id) => end_of(program_ask::ask_text(input, id, out)),
+        DeskQuestion::Words(id) => end_of(program_words::ask_words(input, id, out)),
+        DeskQuestion::Unclear => 0,
     }
 }
 
 fn main() {
     let question = asked();
-    if let Question::Unclear = question {
+    if let DeskQuestion::Unclear = question {
         io::write_all(
             STDERR_FILENO,
             b"usage: ask ID, or ask ID words, with an ID from 0 to 4294967295\n",

@@ -13,9 +13,9 @@ use rules::limits::RECORD_BYTES;
 
 pub mod unchecked;
 
-pub use bank_fields::input_from;
-pub use bank_fields::model_from;
-pub use bank_fields::policy_from;
+pub use unpacking::input_from;
+pub use unpacking::model_from;
+pub use unpacking::policy_from;
 
 // Whether the record at a place can be read, and if not, why: 1, 2 or 8, in this order.
 pub fn reading(bank: &[u8], place: usize) -> Outcome

@@ -5,11 +5,11 @@ ghost use Prim.Native.Nat.{_+_, _*_, _≤_};
 ghost use lib.ListN.{length};
 ghost use Rattle.rules.specs.Limits.{recordBytes};
 ghost use Rattle.rules.specs.Records.{modelAt};
-pub use bank_fields::input_of;
-pub use bank_fields::model_of;
-pub use bank_fields::policy_of;
 use rules::KernelModel;
 use rules::limits::RECORD_BYTES;
+pub use unpacking::input_of;
+pub use unpacking::model_of;
+pub use unpacking::policy_of;
 
 // The model at a place of a bank.
 pub fn model_at(bank: &[u8], place: usize) -> KernelModel

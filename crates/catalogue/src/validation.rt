@@ -1,4 +1,4 @@
-// Validation of a policy with its catalogue: 10, 11, the records, 15.
+// Validation of a policy with its catalogue: 10, 11, the records, 15. `catalog_outcome` is for other crates.
 ghost use mathlib.Core.Path.{_≡_};
 ghost use Rattle.rules.specs.Records.{listedOf};
 ghost use Rattle.rules.specs.Refused.{toldOutcome, firstFault};

@@ -104,7 +104,7 @@ fn note_price(levers: Levers, found: Bound, cost: u64) -> Levers
 }
 
 // What the searches of a model's four levers found, in their order; the opening decision is one pass.
-pub fn four_levers(
+pub fn noted_levers(
     model: KernelModel,
     quality: Bound,
     latency: Bound,

@@ -4,12 +4,12 @@ ghost use Rattle.rules.specs.Margin.{marginLevers};
 ghost use Rattle.counterfactual_pass.specs.Asked.{questionIn, Stands};
 ghost use Rattle.counterfactual_answer.specs.Levers.{toldLevers, roomOf};
 use crate::cost::price_cost;
-use counterfactual_answer::levers::four_levers;
+use counterfactual_answer::levers::noted_levers;
 use counterfactual_lever::P95_LATENCY_MS;
 use counterfactual_lever::PRICE_SCALE_PPM;
 use counterfactual_lever::QUALITY_BPS;
 use counterfactual_lever::RISK_CEILING_BPS;
-use counterfactual_pass::held::held_of;
+use counterfactual_pass::held::held_from;
 use counterfactual_pass::held::model_held;
 use counterfactual_pass::held::request_held;
 use counterfactual_pass::pass::Asked;
@@ -35,7 +35,7 @@ pub fn margin_levers(asked: Asked, bank: &[u8]) -> Levers
     let ceiling = model.risk_ceiling_bps as u64;
     let request = request_held(asked.input);
     let varied = model_held(model);
-    let held = held_of(asked);
+    let held = held_from(asked);
     let by_quality = lowest_true(&request, &varied, &held, QUALITY_BPS, 0, quality);
     let by_latency = highest_below(
         &request,
@@ -55,5 +55,5 @@ pub fn margin_levers(asked: Asked, bank: &[u8]) -> Levers
     );
     let by_ceiling = lowest_above(&request, &varied, &held, RISK_CEILING_BPS, 0, ceiling);
     let cost = price_cost(asked, bank, by_price);
-    four_levers(model, by_quality, by_latency, by_price, cost, by_ceiling)
+    noted_levers(model, by_quality, by_latency, by_price, cost, by_ceiling)
 }

@@ -5,7 +5,7 @@ use Rattle.rules.specs.{Choice.equal, Records.Listed, Records.listed, Verdict.j
 use Rattle.rules.specs.{declared.records.KernelModel.KernelModel, declared.records.KernelInput.KernelInput, declared.records.PolicySnapshot.PolicySnapshot}
 use Rattle.rules.proofs.Strict.{one-way}
 use Rattle.pricing.specs.Pricing.{pricingOf}
-use Rattle.kernel_ranking.specs.{State.heldOf, State.nobody, State.topTwo, State.topOf, State.stateOf, State.betterOf, State.rankedOf, State.enteredOf}
+use Rattle.kernel_ranking.specs.{State.heldOf, State.nobody, State.topTwo, State.topOf, State.stateOf, State.betterOf, State.rankedOf, State.stateEntered}
 use Rattle.kernel_verdict.specs.{Verdict.verdictIn, Verdict.enteringOf, declared.Verdict.Verdict}
 use Rattle.kernel_verdict.specs.declared.Verdict.the-variants.{Rejected, OverBudget, NonPositive, Eligible}
 use Rattle.kernel_ranking.specs.{After.stateAfter, declared.state.Top.Top, declared.state.State.State}
@@ -78,14 +78,14 @@ module _ (t : Top) (c : held.Candidate) (n : betterOf (t .second) (t .best) ≡ 
 
 module _ (s : State) (place : ℕ) (m : KernelModel) (n : betterOf (s .top .second) (s .top .best) ≡ false) where
   after-best : (v : Verdict) → stateAfter s place m v .top .best ≡ against (s .top .best) place m v
-  unfolding stateAfter against enteredOf
+  unfolding stateAfter against stateEntered
   after-best (Rejected gate) = refl
   after-best (OverBudget cost) = refl
   after-best (NonPositive t) = refl
   after-best (Eligible t) = ranked-best (s .top) (enteringOf m place t) n
 
   after-others : Free place (s .top) → (v : Verdict) → othersOf (stateAfter s place m v .top) place ≡ s .top .best
-  unfolding stateAfter enteredOf enteringOf
+  unfolding stateAfter stateEntered enteringOf
   after-others free (Rejected gate) = others-first place (s .top) free
   after-others free (OverBudget cost) = others-first place (s .top) free
   after-others free (NonPositive t) = others-first place (s .top) free

@@ -50,7 +50,7 @@ fn held_numbers(place: u16, id: u32, rival: Candidate, pricing: Pricing) -> Held
 }
 
 // What is asked, in numbers.
-pub fn held_of(asked: Asked) -> Held
+pub fn held_from(asked: Asked) -> Held
     ensures { λ r. ⌜ (placeIn r ≡ asked .place) × (idIn r ≡ asked .id) × (rivalIn r ≡ asked .rival)
         × (pricingIn r ≡ pricingOf (asked .policy) (asked .input)) × Settled (pricingIn r) ⌝ }
 {

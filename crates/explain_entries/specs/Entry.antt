@@ -11,7 +11,7 @@ use Rattle.explain_entries.specs.declared.entry.VerdictNumbers.{VerdictN
 abbrev pub verdictNumbers : VerdictNumbers → Verdict
 verdictNumbers n =
     record {
-      kind = n .verdict;
+      kind = n .kind;
       gate = n .gate;
       first = val (n .first);
       second = val (n .second);

@@ -18,7 +18,7 @@ pub type EntryBytes = [u8; EXPLANATION_BYTES];
 
 // A verdict in document 01's numbers, as they stand in an entry from offset 6 on.
 pub struct VerdictNumbers {
-    pub verdict: u8,
+    pub kind: u8,
     pub gate: u8,
     // Measured, cost or quality term.
     pub first: Wide,
@@ -30,11 +30,11 @@ pub struct VerdictNumbers {
 }
 
 // Verdicts 1 and 2 carry two numbers; the rest stays 0.
-fn two_numbers(verdict: u8, gate: u8, first: u64, second: u64) -> VerdictNumbers
-    ensures { λ r. ⌜ verdictNumbers r ≡ twoNumbers verdict gate first second ⌝ }
+fn two_numbers(kind: u8, gate: u8, first: u64, second: u64) -> VerdictNumbers
+    ensures { λ r. ⌜ verdictNumbers r ≡ twoNumbers kind gate first second ⌝ }
 {
     VerdictNumbers {
-        verdict,
+        kind,
         gate,
         first: Wide { hi: 0, lo: first },
         second: Wide { hi: 0, lo: second },
@@ -45,14 +45,14 @@ fn two_numbers(verdict: u8, gate: u8, first: u64, second: u64) -> VerdictNumbers
 }
 
 // Verdicts 3 and 4 carry all terms.
-fn all_terms(verdict: u8, terms: UtilityTerms) -> VerdictNumbers
-    ensures { λ r. ⌜ verdictNumbers r ≡ toldTerms verdict terms ⌝ }
+fn all_terms(kind: u8, terms: UtilityTerms) -> VerdictNumbers
+    ensures { λ r. ⌜ verdictNumbers r ≡ toldTerms kind terms ⌝ }
 {
     let first = terms.quality_adjusted;
     let second = terms.risk_penalty;
     let latency = terms.latency_penalty;
     VerdictNumbers {
-        verdict,
+        kind,
         gate: 0,
         first,
         second,
@@ -91,7 +91,7 @@ pub fn entry_bytes(place: u16, model: KernelModel, told: VerdictNumbers) -> Entr
     let mut a = [0u8; EXPLANATION_BYTES];
     put32(&mut a, 0, model.model_id);
     put16(&mut a, 4, place);
-    a[6] = told.verdict;
+    a[6] = told.kind;
     a[7] = told.gate;
     put_wide(&mut a, 8, first);
     put_wide(&mut a, 24, second);

@@ -6,8 +6,8 @@ use Rattle.endian.specs.Put.{patched}
 use Rattle.endian.proofs.Stored.{patch-join}
 use Rattle.packing.proofs.Layouts.{length-packed}
 use Rattle.splice.proofs.Pieces.{patched-start, Written, written-then, written-length, written-filled}
-use Rattle.export_decision.specs.Layout.{uncountedBytes}
-use Rattle.export_boundaries.specs.Layout.{leverBytes, roomsBytes, headBytes, boundarySize}
+use Rattle.export_decision_bytes.specs.Layout.{uncountedBytes}
+use Rattle.export_boundary_bytes.specs.Layout.{leverBytes, roomsBytes, headBytes, boundarySize}
 
 pub length-lever : (e : Entry) → length (leverBytes e) ≡ 26
 unfolding leverBytes

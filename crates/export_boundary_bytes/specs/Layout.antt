@@ -5,7 +5,7 @@ use mathlib.Core.List.{List, [], _∷_, _++_}
 use mathlib.Core.Option.{Option, none, some}
 use Rattle.rules.specs.Bytes.{packed}
 use Rattle.rules.specs.Numbers.{Entry, Boundary}
-use Rattle.export_decision.specs.Layout.{uncountedBytes}
+use Rattle.export_decision_bytes.specs.Layout.{uncountedBytes}
 
 -- A lever's bytes, and the whole answer's
 abbrev pub leverSize : ℕ

@@ -1,6 +1,6 @@
 // For the library: what `what_would_win` and `decision_margin` tell, in bytes: the decision, the model, and four rooms for levers.
 // `boundary_bytes` asks nothing of its caller.
-use export_decision::uncounted_bytes;
+use export_decision_bytes::uncounted_bytes;
 use packing::unchecked::put_packed;
 use rules::Boundaries;
 use rules::BoundaryCost;
@@ -13,8 +13,8 @@ ghost use lib.ListN.{length, replicate};
 ghost use Rattle.rules.specs.Bytes.{filled};
 ghost use Rattle.rules.specs.Numbers.{toldCost, toldEntry, toldBoundaries};
 ghost use Rattle.endian.specs.Put.{patched};
-ghost use Rattle.export_decision.specs.Layout.{uncountedBytes};
-ghost use Rattle.export_boundaries.specs.Layout.{flagNo, hasCostNo, costOr, leverSize, leverBytes, headBytes, boundarySize, boundaryBytes};
+ghost use Rattle.export_decision_bytes.specs.Layout.{uncountedBytes};
+ghost use Rattle.export_boundary_bytes.specs.Layout.{flagNo, hasCostNo, costOr, leverSize, leverBytes, headBytes, boundarySize, boundaryBytes};
 
 // A lever's bytes, those before the levers and after the decision, and the whole answer's.
 const LEVER_BYTES: usize = 26;

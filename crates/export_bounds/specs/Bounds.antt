@@ -8,8 +8,8 @@ use Rattle.rules.specs.Refused.{Fault, Answer, refused, answered}
 use Rattle.rules.specs.Numbers.{Boundary}
 use Rattle.rules.specs.Win.{whatWouldWinOf}
 use Rattle.rules.specs.Margin.{decisionMarginOf}
-use Rattle.export_boundaries.specs.Layout.{boundarySize, boundaryBytes}
-use Rattle.export_checks.specs.Checks.{Lent, openingFaults, handed}
+use Rattle.export_boundary_bytes.specs.Layout.{boundarySize, boundaryBytes}
+use Rattle.export_checks.specs.Checks.{Lent, callFaults, handed}
 
 -- ---- `volankizo_what_would_win` and `volankizo_decision_margin`
 
@@ -26,7 +26,7 @@ abbrev pub winCall : Lent → ℕ → List ℕ → ℕ × List ℕ
 winCall l id out =
     handed
     boundaryBytes
-    (openingFaults l boundarySize (length out))
+    (callFaults l boundarySize (length out))
     (boundsIn (whatWouldWinOf (policyOf (l .policy)) (inputOf (l .request)) (l .bank) id))
     out
 
@@ -35,6 +35,6 @@ abbrev pub marginCall : Lent → List ℕ → ℕ × List ℕ
 marginCall l out =
     handed
     boundaryBytes
-    (openingFaults l boundarySize (length out))
+    (callFaults l boundarySize (length out))
     (boundsIn (decisionMarginOf (policyOf (l .policy)) (inputOf (l .request)) (l .bank)))
     out

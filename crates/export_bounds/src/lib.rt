@@ -4,11 +4,10 @@ use bank::unchecked::input_of;
 use bank::unchecked::policy_of;
 use counterfactual::decision_margin;
 use counterfactual::what_would_win;
-use counterfactual_answer::answer::refused;
-use export_boundaries::BOUNDARY_BYTES;
-use export_boundaries::boundary_bytes;
+use export_boundary_bytes::BOUNDARY_BYTES;
+use export_boundary_bytes::boundary_bytes;
+use export_checks::call_outcome;
 use export_checks::hand_bytes;
-use export_checks::opening_outcome;
 use export_checks::refusal_word;
 use rules::Boundaries;
 use rules::Outcome;
@@ -17,7 +16,7 @@ ghost use Prim.Native.Nat.{_≤_};
 ghost use mathlib.Core.List.{[]};
 ghost use lib.ListN.{length};
 ghost use Rattle.rules.specs.Numbers.{toldBoundaries};
-ghost use Rattle.export_boundaries.specs.Layout.{boundarySize, boundaryBytes};
+ghost use Rattle.export_boundary_bytes.specs.Layout.{boundarySize, boundaryBytes};
 ghost use Rattle.export_checks.specs.Checks.{lent, handed};
 ghost use Rattle.export_bounds.specs.Bounds.{boundsIn, winCall, marginCall};
 
@@ -40,7 +39,7 @@ fn bounds_handed(answer: Boundaries, out: &mut [u8]) -> u64
 pub fn win_delivered(policy: &[u8], request: &[u8], bank: &[u8], id: u32, out: &mut [u8]) -> u64
     ensures { λ r. ⌜ (r, now (out .exit)) ≡ winCall (lent (now (policy .entry)) (now (request .entry)) (now (bank .entry))) id (now (out .entry)) ⌝ }
 {
-    let outcome = opening_outcome(policy, request, bank, BOUNDARY_BYTES, out.len());
+    let outcome = call_outcome(policy, request, bank, BOUNDARY_BYTES, out.len());
     if let Outcome::Refused(refusal) = outcome {
         return refusal_word(refusal, 0);
     }
@@ -54,7 +53,7 @@ pub fn win_delivered(policy: &[u8], request: &[u8], bank: &[u8], id: u32, out: &
 pub fn margin_delivered(policy: &[u8], request: &[u8], bank: &[u8], out: &mut [u8]) -> u64
     ensures { λ r. ⌜ (r, now (out .exit)) ≡ marginCall (lent (now (policy .entry)) (now (request .entry)) (now (bank .entry))) (now (out .entry)) ⌝ }
 {
-    let outcome = opening_outcome(policy, request, bank, BOUNDARY_BYTES, out.len());
+    let outcome = call_outcome(policy, request, bank, BOUNDARY_BYTES, out.len());
     if let Outcome::Refused(refusal) = outcome {
         return refusal_word(refusal, 0);
     }

@@ -7,8 +7,8 @@ use Rattle.rules.specs.Refused.{unless, answered}
 use Rattle.rules.specs.Numbers.{DecisionAndTrace}
 use Rattle.rules.specs.Decide.{tracedOf}
 use Rattle.rules.specs.Explain.{explainOf, explainList}
-use Rattle.export_decision.specs.Layout.{uncountedSize, uncountedBytes, decisionSize, decisionBytes}
-use Rattle.export_checks.specs.Checks.{Lent, openingFaults, checkedFaults, handed}
+use Rattle.export_decision_bytes.specs.Layout.{uncountedSize, uncountedBytes, decisionSize, decisionBytes}
+use Rattle.export_checks.specs.Checks.{Lent, callFaults, checkedFaults, handed}
 
 -- ---- `volankizo_prescribe` and `volankizo_prescribe_checked`
 
@@ -17,7 +17,7 @@ prescribed l = tracedOf (policyOf (l .policy)) (inputOf (l .request)) (listedOf 
 
 -- 22, 1, 2, 4
 abbrev pub prescribeCall : Lent → List ℕ → ℕ × List ℕ
-prescribeCall l out = handed decisionBytes (openingFaults l decisionSize (length out)) (answered (prescribed l)) out
+prescribeCall l out = handed decisionBytes (callFaults l decisionSize (length out)) (answered (prescribed l)) out
 
 -- 22, 1, 2, 4, 3
 abbrev pub prescribeCheckedCall : Lent → List ℕ → ℕ × List ℕ
@@ -30,5 +30,5 @@ abbrev pub explainCall : Lent → List ℕ → List ℕ → (ℕ × List ℕ) ×
 explainCall l list out =
     let p = policyOf (l .policy) in
     let q = inputOf (l .request) in
-    let faults = openingFaults l uncountedSize (length out) in
+    let faults = callFaults l uncountedSize (length out) in
     (handed uncountedBytes faults (explainOf p q (l .bank) list) out, unless faults (λ f. list) (explainList p q (l .bank) list))

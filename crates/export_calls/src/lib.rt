@@ -3,14 +3,14 @@
 use bank::unchecked::input_of;
 use bank::unchecked::policy_of;
 use explain::explain;
-use export_checks::checked_opening;
+use export_checks::call_outcome;
+use export_checks::checked_call_outcome;
 use export_checks::hand_bytes;
-use export_checks::opening_outcome;
 use export_checks::refusal_word;
-use export_decision::DECISION_BYTES;
-use export_decision::UNCOUNTED_BYTES;
-use export_decision::decision_bytes;
-use export_decision::uncounted_bytes;
+use export_decision_bytes::DECISION_BYTES;
+use export_decision_bytes::UNCOUNTED_BYTES;
+use export_decision_bytes::decision_bytes;
+use export_decision_bytes::uncounted_bytes;
 use kernel::lent::traced_lent;
 use rules::Outcome;
 use rules::Prescribed;
@@ -20,7 +20,7 @@ ghost use Prim.Native.Nat.{_≤_};
 ghost use mathlib.Core.List.{[]};
 ghost use lib.ListN.{length};
 ghost use Rattle.rules.specs.Numbers.{toldPrescribed, toldTraced};
-ghost use Rattle.export_decision.specs.Layout.{decisionSize, decisionBytes, uncountedSize, uncountedBytes};
+ghost use Rattle.export_decision_bytes.specs.Layout.{decisionSize, decisionBytes, uncountedSize, uncountedBytes};
 ghost use Rattle.export_checks.specs.Checks.{lent, handed};
 ghost use Rattle.export_calls.specs.Calls.{prescribeCall, prescribeCheckedCall, explainCall};
 
@@ -42,7 +42,7 @@ fn traced_handed(traced: Traced, out: &mut [u8]) -> u64
 pub fn prescribe_delivered(policy: &[u8], request: &[u8], bank: &[u8], out: &mut [u8]) -> u64
     ensures { λ r. ⌜ (r, now (out .exit)) ≡ prescribeCall (lent (now (policy .entry)) (now (request .entry)) (now (bank .entry))) (now (out .entry)) ⌝ }
 {
-    let outcome = opening_outcome(policy, request, bank, DECISION_BYTES, out.len());
+    let outcome = call_outcome(policy, request, bank, DECISION_BYTES, out.len());
     if let Outcome::Refused(refusal) = outcome {
         return refusal_word(refusal, 0);
     }
@@ -58,7 +58,7 @@ pub fn prescribe_checked_delivered(
 ) -> u64
     ensures { λ r. ⌜ (r, now (out .exit)) ≡ prescribeCheckedCall (lent (now (policy .entry)) (now (request .entry)) (now (bank .entry))) (now (out .entry)) ⌝ }
 {
-    let outcome = checked_opening(policy, request, bank, DECISION_BYTES, out.len());
+    let outcome = checked_call_outcome(policy, request, bank, DECISION_BYTES, out.len());
     if let Outcome::Refused(refusal) = outcome {
         return refusal_word(refusal, 0);
     }
@@ -90,7 +90,7 @@ pub fn explain_delivered(
     ensures { λ r. ⌜ ((r, now (out .exit)), now (list .exit)) ≡ explainCall (lent (now (policy .entry)) (now (request .entry)) (now (bank .entry)))
         (now (list .entry)) (now (out .entry)) ⌝ }
 {
-    let outcome = opening_outcome(policy, request, bank, UNCOUNTED_BYTES, out.len());
+    let outcome = call_outcome(policy, request, bank, UNCOUNTED_BYTES, out.len());
     if let Outcome::Refused(refusal) = outcome {
         return refusal_word(refusal, 0);
     }

@@ -3,7 +3,7 @@ use Rattle.rules.proofs.Kit.{ℕ, _<_, _≤_, _≡_, List, [], _∷_, _++_, ari
 use Rattle.rules.specs.{Limits.policyBytes, Limits.requestBytes, Limits.maxCatalogModels, Records.recordsIn, Refused.Faults, Refused.fault, Refused.bankFaults}
 use Rattle.rules.specs.{Refused.roomFaults}
 use Rattle.rules.proofs.Faults.{none-first, none-after, equal-none, room-passed, few-records}
-use Rattle.export_checks.specs.Checks.{Lent, sizeFaults, lentFaults, openingFaults}
+use Rattle.export_checks.specs.Checks.{Lent, sizeFaults, lentFaults, callFaults}
 
 module _ (have want : ℕ) where
   -- No 22: the length is the one that is wanted
@@ -29,24 +29,24 @@ room-first needed room h = rw (lt-ltb room needed h)
 pub lent-room : (bank : List ℕ) (needed room : ℕ) → lentFaults bank needed room ≡ [] → needed ≤ room
 lent-room bank needed room e = room-passed needed room (none-after (bankFaults bank) (roomFaults needed room) e)
 
-module _ (l : Lent) (needed room : ℕ) (e : openingFaults l needed room ≡ []) where
+module _ (l : Lent) (needed room : ℕ) (e : callFaults l needed room ≡ []) where
   after : sizeFaults (length (l .request)) requestBytes ++ lentFaults (l .bank) needed room ≡ []
-  unfolding openingFaults
+  unfolding callFaults
   after = none-after (sizeFaults (length (l .policy)) policyBytes) _ e
 
-  pub opening-policy : policyBytes ≤ length (l .policy)
-  unfolding openingFaults
-  opening-policy = let is = size-is (length (l .policy)) policyBytes (none-first _ _ e) in omega arith
+  pub call-policy : policyBytes ≤ length (l .policy)
+  unfolding callFaults
+  call-policy = let is = size-is (length (l .policy)) policyBytes (none-first _ _ e) in omega arith
 
-  pub opening-request : requestBytes ≤ length (l .request)
-  opening-request = let is = size-is (length (l .request)) requestBytes (none-first _ _ after) in omega arith
+  pub call-request : requestBytes ≤ length (l .request)
+  call-request = let is = size-is (length (l .request)) requestBytes (none-first _ _ after) in omega arith
 
   lending : lentFaults (l .bank) needed room ≡ []
   lending = none-after (sizeFaults (length (l .request)) requestBytes) _ after
 
   -- what a call that takes them asks for
-  pub opening-lent : (policyBytes ≤ length (l .policy)) × (requestBytes ≤ length (l .request)) × (recordsIn (length (l .bank)) ≤ maxCatalogModels)
-  opening-lent = (opening-policy, opening-request, few-records (length (l .bank)) (none-first _ _ lending))
+  pub call-lent : (policyBytes ≤ length (l .policy)) × (requestBytes ≤ length (l .request)) × (recordsIn (length (l .bank)) ≤ maxCatalogModels)
+  call-lent = (call-policy, call-request, few-records (length (l .bank)) (none-first _ _ lending))
 
-  pub opening-room : needed ≤ room
-  opening-room = lent-room (l .bank) needed room lending
+  pub call-room : needed ≤ room
+  call-room = lent-room (l .bank) needed room lending

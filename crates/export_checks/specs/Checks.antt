@@ -32,14 +32,14 @@ abbrev pub lentFaults : List ℕ → ℕ → ℕ → Faults
 lentFaults bank needed room = bankFaults bank ++ roomFaults needed room
 
 -- 22, 1, 2, 4: what comes in as bytes, then the bank and the buffer
-unfoldable pub openingFaults : Lent → ℕ → ℕ → Faults
-openingFaults l needed room =
+unfoldable pub callFaults : Lent → ℕ → ℕ → Faults
+callFaults l needed room =
     sizeFaults (length (l .policy)) policyBytes
     ++ (sizeFaults (length (l .request)) requestBytes ++ lentFaults (l .bank) needed room)
 
 -- 22, 1, 2, 4, 3: the request's fields besides
 abbrev pub checkedFaults : Lent → ℕ → ℕ → Faults
-checkedFaults l needed room = openingFaults l needed room ++ requestFaults (inputOf (l .request)) 0
+checkedFaults l needed room = callFaults l needed room ++ requestFaults (inputOf (l .request)) 0
 
 -- 22, 3: a request alone
 abbrev pub checkFaults : List ℕ → Faults
@@ -71,6 +71,6 @@ handed bytes [] (answered a) out = delivered (bytes a) out
 abbrev pub itself : List ℕ → List ℕ
 itself bytes = bytes
 
--- The bytes of an offset, of a length and of an entry's place: a u64
+-- The bytes of an offset, of a length, of a utility and of an entry's place: a u64
 abbrev pub wordSize : ℕ
 wordSize = 8

@@ -9,7 +9,7 @@ use rules::limits::POLICY_BYTES;
 use rules::limits::REQUEST_BYTES;
 ghost use mathlib.Core.Path.{_≡_};
 ghost use Rattle.rules.specs.Refused.{firstFault, toldOutcome};
-ghost use Rattle.export_checks.specs.Checks.{lent, lentFaults, openingFaults, checkedFaults, checkFaults, wordOf};
+ghost use Rattle.export_checks.specs.Checks.{lent, lentFaults, callFaults, checkedFaults, checkFaults, wordOf};
 
 // 1 or 2 for the bank, then 4 where the answer needs more room.
 pub fn lent_outcome(bank: &[u8], needed: usize, room: usize) -> Outcome
@@ -26,14 +26,14 @@ pub fn lent_outcome(bank: &[u8], needed: usize, room: usize) -> Outcome
 }
 
 // 22 for the policy or the request, then 1, 2 and 4.
-pub fn opening_outcome(
+pub fn call_outcome(
     policy: &[u8],
     request: &[u8],
     bank: &[u8],
     needed: usize,
     room: usize,
 ) -> Outcome
-    ensures { λ r. ⌜ toldOutcome r ≡ firstFault (openingFaults (lent (now (policy .entry)) (now (request .entry)) (now (bank .entry))) needed room) ⌝ }
+    ensures { λ r. ⌜ toldOutcome r ≡ firstFault (callFaults (lent (now (policy .entry)) (now (request .entry)) (now (bank .entry))) needed room) ⌝ }
 {
     if policy.len() != POLICY_BYTES {
         return Outcome::Refused(Refusal::WrongLength);
@@ -45,7 +45,7 @@ pub fn opening_outcome(
 }
 
 // The same, then 3 for the request.
-pub fn checked_opening(
+pub fn checked_call_outcome(
     policy: &[u8],
     request: &[u8],
     bank: &[u8],
@@ -54,7 +54,7 @@ pub fn checked_opening(
 ) -> Outcome
     ensures { λ r. ⌜ toldOutcome r ≡ firstFault (checkedFaults (lent (now (policy .entry)) (now (request .entry)) (now (bank .entry))) needed room) ⌝ }
 {
-    let outcome = opening_outcome(policy, request, bank, needed, room);
+    let outcome = call_outcome(policy, request, bank, needed, room);
     if let Outcome::Refused(refusal) = outcome {
         return Outcome::Refused(refusal);
     }

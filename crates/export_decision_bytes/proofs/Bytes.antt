@@ -6,7 +6,7 @@ use Rattle.endian.specs.Put.{patched}
 use Rattle.endian.proofs.Stored.{byte-patch}
 use Rattle.packing.proofs.Packing.{Laid}
 use Rattle.splice.proofs.Pieces.{patched-start}
-use Rattle.export_decision.specs.Layout.{decisionFields, uncountedBytes}
+use Rattle.export_decision_bytes.specs.Layout.{decisionFields, uncountedBytes}
 use Rattle.rules.specs.declared.decision.KernelAction.the-variants as action
 
 -- An action's number is a byte of its own

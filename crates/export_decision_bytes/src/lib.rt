@@ -8,7 +8,7 @@ use rules::KernelDecision;
 use splice::put_bytes;
 ghost use mathlib.Core.Path.{_≡_};
 ghost use Rattle.rules.specs.Numbers.{toldDecision};
-ghost use Rattle.export_decision.specs.Layout.{uncountedBytes, decisionBytes};
+ghost use Rattle.export_decision_bytes.specs.Layout.{uncountedBytes, decisionBytes};
 
 // A decision's bytes alone, and with its counts.
 pub const UNCOUNTED_BYTES: usize = 65;

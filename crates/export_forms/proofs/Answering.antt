@@ -8,7 +8,7 @@ use Rattle.rules.proofs.Faults.{none-first, none-told}
 use Rattle.endian.specs.Put.{patched}
 use Rattle.endian.proofs.Stored.{patch-join}
 use Rattle.export_checks.specs.Checks.{wordAt, wordOf, wordSize, lentFaults, delivered, handed, itself}
-use Rattle.export_checks.proofs.{Openings.room-first, Handed.Told, Handed.delivered-so}
+use Rattle.export_checks.proofs.{Tests.room-first, Handed.Told, Handed.delivered-so}
 use Rattle.export_forms.specs.Forms.{recordAtFaults, writtenWord, storedSize, storedBytes, storedIn, roomlessFaults, readStoredCall, readRequestFaults}
 
 -- ---- a record's offset

@@ -13,7 +13,7 @@ use Rattle.rules.specs.Refused.{roomFaults, Answer, answered}
 use Rattle.rules.specs.Listing.{findOf}
 use Rattle.rules.specs.Decide.{utilityForModelOf}
 use Rattle.rules.specs.Explain.{nextEligibleOf}
-use Rattle.export_checks.specs.Checks.{Lent, wordSize, lentFaults, openingFaults, handed}
+use Rattle.export_checks.specs.Checks.{Lent, wordSize, lentFaults, callFaults, handed}
 
 -- ---- `volankizo_utility_for_model`
 
@@ -26,7 +26,7 @@ utilityAsked l id = utilityForModelOf (policyOf (l .policy)) (inputOf (l .reques
 
 -- 22, 1, 2, 4, 7
 abbrev pub utilityCall : Lent → ℕ → List ℕ → ℕ × List ℕ
-utilityCall l id out = handed utilityBytes (openingFaults l wordSize (length out)) (utilityAsked l id) out
+utilityCall l id out = handed utilityBytes (callFaults l wordSize (length out)) (utilityAsked l id) out
 
 -- ---- `volankizo_find`
 

@@ -5,9 +5,9 @@ use bank::unchecked::policy_of;
 use endian::put16;
 use endian::signed_bits;
 use explain::next_eligible;
+use export_checks::call_outcome;
 use export_checks::hand_u64;
 use export_checks::lent_outcome;
-use export_checks::opening_outcome;
 use export_checks::refusal_word;
 use kernel::find;
 use kernel::utility_for_model;
@@ -49,7 +49,7 @@ fn utility_handed(found: UtilityFound, out: &mut [u8]) -> u64
 pub fn utility_delivered(policy: &[u8], request: &[u8], bank: &[u8], id: u32, out: &mut [u8]) -> u64
     ensures { λ r. ⌜ (r, now (out .exit)) ≡ utilityCall (lent (now (policy .entry)) (now (request .entry)) (now (bank .entry))) id (now (out .entry)) ⌝ }
 {
-    let outcome = opening_outcome(policy, request, bank, WORD_BYTES, out.len());
+    let outcome = call_outcome(policy, request, bank, WORD_BYTES, out.len());
     if let Outcome::Refused(refusal) = outcome {
         return refusal_word(refusal, 0);
     }

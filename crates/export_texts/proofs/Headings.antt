@@ -7,7 +7,7 @@ use Rattle.rules.specs.{Printed.printBuffer}
 use Rattle.rules.proofs.Faults.{room-enough}
 use Rattle.endian.proofs.Numbers.{length-bytes}
 use Rattle.export_checks.specs.Checks.{wordSize}
-use Rattle.export_checks.proofs.{Openings.room-first, Handed.first-handed, Handed.answer-delivered}
+use Rattle.export_checks.proofs.{Tests.room-first, Handed.first-handed, Handed.answer-delivered}
 use Rattle.export_texts.specs.Texts.{textFaults, textBytes, textCall, headed}
 use Rattle.stored_fields.proofs.Forms.{to-end}
 

@@ -14,7 +14,7 @@ use kernel_ranking::state::State;
 use kernel_ranking::state::start;
 use kernel_scan::pricing_for;
 use kernel_scan::scan_on;
-use pricing_terms::utility_of;
+use pricing_terms::utility_of_score;
 use rules::KernelAction;
 use rules::KernelDecision;
 use rules::KernelInput;
@@ -92,9 +92,9 @@ fn chosen(
         selected_model_id: best.model_id,
         selected_model_index: best.model_index,
         estimated_cost_microunits: best.cost,
-        expected_utility_microunits: utility_of(best.score),
+        expected_utility_microunits: utility_of_score(best.score),
         counterfactual_model_id: second.model_id,
-        counterfactual_utility_microunits: utility_of(second.score),
+        counterfactual_utility_microunits: utility_of_score(second.score),
         evaluated_models: evaluated,
         eligible_models: state.eligible,
         policy_epoch: policy.policy_epoch,

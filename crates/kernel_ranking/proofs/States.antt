@@ -9,7 +9,7 @@ use Rattle.rules.specs.{Rank.ranking, Count.countedFor, Count.countsOf, Count.r
 use Rattle.rules.specs.{declared.records.KernelInput.KernelInput, declared.records.PolicySnapshot.PolicySnapshot}
 use Rattle.rules.specs.{declared.decision.RejectionHistogram.RejectionHistogram}
 use Rattle.rules.proofs.{Sorted.sorted-each, Sorted.sorted-snoc, Better.ranking-in-order, Counts.judged-snoc, Counts.raised-none}
-use Rattle.kernel_ranking.specs.{State.topOf, State.heldOf, State.stateOf, State.rankedOf, State.enteredOf}
+use Rattle.kernel_ranking.specs.{State.topOf, State.heldOf, State.stateOf, State.rankedOf, State.stateEntered}
 use Rattle.kernel_ranking.specs.{State.startOf, declared.state.State.State}
 use Rattle.kernel_ranking.proofs.{Orders.Positive, Orders.positive, Ranking.AllPositive, Ranking.top-insert}
 
@@ -108,7 +108,7 @@ module _ (p : PolicySnapshot) (q : KernelInput) where
 
   -- ONE RECORD MORE IS ONE STEP
   pub state-snoc : (ls : List Listed) (l : Listed) → stateOf (judged p q (ls ++ l ∷ [])) ≡ stepOf (stateOf (judged p q ls)) (judge p q l)
-  unfolding stateOf stepOf enteredOf turnedAway ranking equal
+  unfolding stateOf stepOf stateEntered turnedAway ranking equal
   state-snoc ls l =
       let js = judged p q ls in
       let j = judge p q l in

@@ -11,7 +11,7 @@ use Rattle.pricing_terms.specs.{Score.scored, Terms.termsWith, declared.ScoredT
 use Rattle.pricing_terms.proofs.{Scores.scored-unscored, Scores.score-positive, Ruled.Ruled, Ruled.terms-rule}
 use Rattle.kernel_verdict.specs.{Verdict.byScore, Verdict.verdictIn, Verdict.countedOf, Verdict.enteringOf, declared.Verdict.Verdict}
 use Rattle.kernel_verdict.specs.declared.Verdict.the-variants.{Rejected, OverBudget, NonPositive, Eligible}
-use Rattle.kernel_ranking.specs.State.{heldOf, enteredOf}
+use Rattle.kernel_ranking.specs.State.{heldOf, stateEntered}
 use Rattle.kernel_ranking.specs.{After.stateAfter, After.scanOf, declared.state.State.State}
 use Rattle.kernel_ranking.proofs.States.{fold-sum}
 use Rattle.rules.specs.Numbers as numbers
@@ -41,7 +41,7 @@ module _ (p : PolicySnapshot) (q : KernelInput) (s : State) (place : ℕ) (m : K
     held-score = ap scored (sym (ruled .utility)) ∙ scored-unscored (t .score)
 
     alike-terms : (b : Bool) → leb (t .score) (2 ^ 63) ≡ b → Alike (rules.withTerms p q m (cond b 3 4)) (byScore t)
-    unfolding stepOf turnedAway enteredOf stateAfter countedOf countedFor equal enteringOf heldOf byScore below
+    unfolding stepOf turnedAway stateEntered stateAfter countedOf countedFor equal enteringOf heldOf byScore below
     alike-terms true e = rw (le-ltb (2 ^ 63) (t .score) (leb-true _ _ e))
     alike-terms false e = rw (lt-ltb (2 ^ 63) (t .score) (leb-false _ _ e), held-score, ruled .cost)
 
@@ -77,7 +77,7 @@ module _ (s : State) (place : ℕ) (m : KernelModel) where
   either-grows false x y h k = k
 
   priced-grows : (t : ScoredTerms) → Grows (byScore t)
-  unfolding byScore below stateAfter countedOf enteredOf
+  unfolding byScore below stateAfter countedOf stateEntered
   priced-grows t =
       either-grows (ltb (2 ^ 63) (t .score)) (Eligible t) (NonPositive t)
       (λ e. omega arith) (omega (arith, total-raised (s .counts) 109 (omega arith) (omega arith)))

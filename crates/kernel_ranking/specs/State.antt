@@ -59,8 +59,8 @@ rankedOf t c =
     cond (betterOf c (t .second)) (cond (betterOf c (t .best)) (topTwo c (t .best)) (topTwo (t .best) c)) t
 
 -- The state with one record more that is eligible
-unfoldable pub enteredOf : State → Candidate → State
-enteredOf s c = record { counts = s .counts; top = rankedOf (s .top) c; eligible = s .eligible + 1 }
+unfoldable pub stateEntered : State → Candidate → State
+stateEntered s c = record { counts = s .counts; top = rankedOf (s .top) c; eligible = s .eligible + 1 }
 
 -- The state before the first record
 abbrev pub startOf : State

@@ -17,7 +17,7 @@ use kernel_ranking::state::State;
 use kernel_ranking::state::start;
 use kernel_scan::pricing_for;
 use kernel_scan::scan_on;
-use pricing_terms::utility_of;
+use pricing_terms::utility_of_score;
 use rules::Found;
 use rules::KernelInput;
 use rules::Outcome;
@@ -35,7 +35,7 @@ fn worth_of(state: State) -> UtilityFound
     }
     let top = state.top;
     let best = top.best;
-    UtilityFound::Utility(utility_of(best.score))
+    UtilityFound::Utility(utility_of_score(best.score))
 }
 
 // The utility of the model at a place.

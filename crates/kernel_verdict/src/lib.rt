@@ -63,9 +63,9 @@ pub fn counted(counts: RejectionHistogram, verdict: Verdict) -> RejectionHistogr
     ensures { λ r. ⌜ r ≡ countedOf counts verdict ⌝ }
 {
     match verdict {
-        Verdict::Rejected(gate) => gates_told::raised(counts, gate),
-        Verdict::OverBudget(_) => gates_told::raised_for_budget(counts),
-        Verdict::NonPositive(_) => gates_told::raised_for_utility(counts),
+        Verdict::Rejected(gate) => rejections::raised(counts, gate),
+        Verdict::OverBudget(_) => rejections::raised_for_budget(counts),
+        Verdict::NonPositive(_) => rejections::raised_for_utility(counts),
         Verdict::Eligible(_) => counts,
     }
 }

@@ -11,7 +11,7 @@ use Rattle.pricing.specs.declared.Pricing.{Pricing}
 
 -- what both prices stay below for the tokens of both directions to be paid by 64 bits
 unfoldable pub priceLimit : ℕ → ℕ → ℕ
-priceLimit tokens more = below tokens (2 ^ 24) (below more (2 ^ 24) (2 ^ 40) (2 ^ 32)) (2 ^ 32)
+priceLimit inputTokens outputTokens = below inputTokens (2 ^ 24) (below outputTokens (2 ^ 24) (2 ^ 40) (2 ^ 32)) (2 ^ 32)
 
 -- a value times a share, where that fits for every share, else the largest number
 unfoldable pub prefixOf : ℕ → ℕ → ℕ

@@ -7,7 +7,7 @@ use rules::Wide;
 pub use worth::ZERO_SCORE;
 pub use worth::terms;
 pub use worth::terms_wide;
-pub use worth::utility_of;
+pub use worth::utility_of_score;
 pub use worth::utility_terms;
 
 // The terms of a utility, with its score in place of the utility.

@@ -145,7 +145,7 @@ pub fn terms(pr: Pricing, model: KernelModel, cost: u64) -> ScoredTerms
 }
 
 // The utility that a score stands for. Below zero it is a complement, since the size of the lowest i64 is no i64.
-pub fn utility_of(score: u64) -> i64
+pub fn utility_of_score(score: u64) -> i64
     ensures { λ r. ⌜ r ≡ unscored score ⌝ }
 {
     if score < ZERO_SCORE {
@@ -166,6 +166,6 @@ pub fn utility_terms(t: ScoredTerms) -> UtilityTerms
         risk_penalty: risk,
         cost_microunits: t.cost_microunits,
         latency_penalty: latency,
-        utility: utility_of(t.score),
+        utility: utility_of_score(t.score),
     }
 }

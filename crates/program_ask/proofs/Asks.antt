@@ -1,7 +1,7 @@
 -- What refuses a question from the desk, and what it asks. Assumes nothing.
 use Rattle.rules.proofs.Kit.{ℕ, _≡_, refl, sym, ap, _∙_, List, [], _∷_, Option, none, some, arith}
 use Rattle.rules.specs.{Records.Listed, Records.listedOf, Refused.fault, Refused.answered, Refused.firstFault, Refused.toldOutcome, Numbers.toldFound}
-use Rattle.rules.specs.{Numbers.Boundary, Listing.firstListed, Listing.placeOf, Win.whatWouldWinOf, Printed.programPolicy, Printed.programBank}
+use Rattle.rules.specs.{Numbers.Boundary, Listing.firstListed, Listing.placeOf, Win.whatWouldWinOf, Stored.storedPolicy, Stored.storedBank}
 use Rattle.rules.specs.{Printed.programModels, Printed.programRequest, Printed.programFaults, Printed.unlistedFaults, Printed.askFaults, Printed.askedOf}
 use Rattle.rules.specs.{declared.records.KernelInput.KernelInput, declared.records.PolicySnapshot.PolicySnapshot, declared.refusal.Refusal.Refusal}
 use Rattle.rules.specs.{declared.refusal.Outcome.Outcome, declared.decision.Found.Found}
@@ -31,7 +31,7 @@ unlisted-five : (o : Option Listed) → placeOf o ≡ none → unlistedFaults o 
 unlisted-five none e = refl
 unlisted-five (some l) e = absurd (let z : _≡_ {A = ℕ} 0 1 = cc in omega arith)
 
-module _ (f : Found) {bank : List ℕ} (id : ℕ) (input : List ℕ) (passes : programFaults input ≡ []) (models : bank ≡ programBank input)
+module _ (f : Found) {bank : List ℕ} (id : ℕ) (input : List ℕ) (passes : programFaults input ≡ []) (models : bank ≡ storedBank input)
     (told : toldFound f ≡ answered (placeOf (firstListed id (listedOf bank)))) where
   here : toldFound f ≡ answered (placeOf (firstListed id (programModels input)))
   here = told ∙ ap (λ (b : List ℕ). answered (placeOf (firstListed id (listedOf b)))) models
@@ -58,7 +58,7 @@ module _ (f : Found) {bank : List ℕ} (id : ℕ) (input : List ℕ) (passes : p
 
 -- WHAT IS ASKED is what would win
 pub win-told : {b : Boundary} {p : PolicySnapshot} {q : KernelInput} {bank : List ℕ} (id : ℕ) (input : List ℕ) → Formed input
-    → p ≡ programPolicy input → q ≡ programRequest input → bank ≡ programBank input → b ≡ whatWouldWinOf p q bank id → b ≡ askedOf id input
+    → p ≡ storedPolicy input → q ≡ programRequest input → bank ≡ storedBank input → b ≡ whatWouldWinOf p q bank id → b ≡ askedOf id input
 unfolding whatWouldWinOf
 win-told {b} {p} {q} {bank} id input formed policy request models e =
     e ∙ (λ i. whatWouldWinOf (policy i) (request i) (models i) id) ∙ rw (bank-whole input formed)

@@ -2,7 +2,7 @@
 use Rattle.rules.proofs.Kit.{lt-ltb, le-ltb, eq-eqb, ℕ, _/_, _%_, _≤_, _<_, _≡_, refl, ap, _∙_, List, [], _∷_, Option, length, arith}
 use Rattle.rules.specs.{Limits.recordBytes, Limits.maxProgramModels, Limits.maxCatalogModels, Records.recordsIn, Records.listedOf, Refused.Fault}
 use Rattle.rules.specs.{Refused.bankFaults, Refused.lengthFaults, Refused.orElse, Refused.firstFault, Refused.toldOutcome, Decide.requestFaults}
-use Rattle.rules.specs.{Validate.catalogFaults, Stored.bodyLength, Stored.afterOf, Stored.formFaults, Printed.programPolicy, Printed.programBank}
+use Rattle.rules.specs.{Validate.catalogFaults, Stored.bodyLength, Stored.afterOf, Stored.formFaults, Stored.storedPolicy, Stored.storedBank}
 use Rattle.rules.specs.{Printed.programModels, Printed.programRequest, Printed.programFaults, declared.records.KernelInput.KernelInput}
 use Rattle.rules.specs.{declared.records.PolicySnapshot.PolicySnapshot, declared.refusal.Refusal.Refusal, declared.refusal.Outcome.Outcome}
 use Rattle.rules.specs.{declared.refusal.Outcome.the-variants.Answered, declared.refusal.Outcome.the-variants.Refused}
@@ -25,7 +25,7 @@ fields input e =
     record { policy = first .0; bank = second .0; request = third .0 }
 
 -- and its bank has whole records, no more than a catalogue's
-pub bank-whole : (input : List ℕ) → Formed input → bankFaults (programBank input) ≡ []
+pub bank-whole : (input : List ℕ) → Formed input → bankFaults (storedBank input) ≡ []
 unfolding lengthFaults
 bank-whole input e =
     let p = fields input e .bank in
@@ -37,43 +37,43 @@ bank-whole input e =
       le-ltb maxCatalogModels (bodyLength (afterOf input) / recordBytes) (omega (arith, size .1)),
     )
 
-pub bank-few : (input : List ℕ) → Formed input → recordsIn (length (programBank input)) ≤ maxCatalogModels
+pub bank-few : (input : List ℕ) → Formed input → recordsIn (length (storedBank input)) ≤ maxCatalogModels
 bank-few input e =
     let p = fields input e .bank in
     rw (body-length (afterOf input) (p .whole)) (omega (arith, fits-bank _ (p .right) .1))
 
 -- ---- the tests, in their order
 
-module _ {bank : List ℕ} (input : List ℕ) (formed : Formed input) (is : bank ≡ programBank input) where
+module _ {bank : List ℕ} (input : List ℕ) (formed : Formed input) (is : bank ≡ storedBank input) where
   -- 19 AFTER THE FORM: more models than the programs take
   pub many-refused : maxProgramModels < length bank / recordBytes → toldOutcome (Refused refusal.TooManyForProgram) ≡ firstFault (formedFaults input)
   unfolding formedFaults toldOutcome firstFault
   many-refused h =
-      rw (formed, lt-ltb maxProgramModels (recordsIn (length (programBank input))) (omega (arith, h, ap length is)))
+      rw (formed, lt-ltb maxProgramModels (recordsIn (length (storedBank input))) (omega (arith, h, ap length is)))
 
   pub few-pass : length bank / recordBytes ≤ maxProgramModels → toldOutcome Answered ≡ firstFault (formedFaults input)
   unfolding formedFaults toldOutcome firstFault
   few-pass h =
-      rw (formed, le-ltb maxProgramModels (recordsIn (length (programBank input))) (omega (arith, h, ap length is)))
+      rw (formed, le-ltb maxProgramModels (recordsIn (length (storedBank input))) (omega (arith, h, ap length is)))
 
 -- An input that passes those is formed
-pub opening-formed : (input : List ℕ) → formedFaults input ≡ [] → Formed input
+pub formed-whole : (input : List ℕ) → formedFaults input ≡ [] → Formed input
 unfolding formedFaults
-opening-formed input e = none-first (formFaults (1 ∷ 2 ∷ 3 ∷ []) input) _ e
+formed-whole input e = none-first (formFaults (1 ∷ 2 ∷ 3 ∷ []) input) _ e
 
 pub program-formed : (input : List ℕ) → programFaults input ≡ [] → Formed input
 unfolding programFaults formedFaults
-program-formed input e = opening-formed input (none-first (formedFaults input) _ (none-first _ _ e))
+program-formed input e = formed-whole input (none-first (formedFaults input) _ (none-first _ _ e))
 
 -- THE FORM AND 19 COME FIRST
-pub opening-refused : {o : Outcome} {r : Refusal} (input : List ℕ) → o ≡ Refused r → toldOutcome o ≡ firstFault (formedFaults input)
+pub formed-refused : {o : Outcome} {r : Refusal} (input : List ℕ) → o ≡ Refused r → toldOutcome o ≡ firstFault (formedFaults input)
     → toldOutcome (Refused r) ≡ firstFault (programFaults input)
 unfolding programFaults formedFaults
-opening-refused input e h = append-refused _ _ refl (append-refused (formedFaults input) (catalogFaults (programPolicy input) (programModels input)) e h)
+formed-refused input e h = append-refused _ _ refl (append-refused (formedFaults input) (catalogFaults (storedPolicy input) (programModels input)) e h)
 
 -- THEN VALIDATION, THEN THE REQUEST
 pub program-told : {r v c : Option Fault} {p : PolicySnapshot} {q : KernelInput} {bank : List ℕ} (input : List ℕ) → formedFaults input ≡ []
-    → p ≡ programPolicy input → bank ≡ programBank input → q ≡ programRequest input
+    → p ≡ storedPolicy input → bank ≡ storedBank input → q ≡ programRequest input
     → v ≡ firstFault (catalogFaults p (listedOf bank)) → c ≡ firstFault (requestFaults q 0) → r ≡ orElse v c → r ≡ firstFault (programFaults input)
 unfolding programFaults formedFaults
 program-told input opens policy models request v c e =

@@ -2,7 +2,8 @@
 // the input in which it stands.
 ghost use mathlib.Core.Path.{_≡_};
 ghost use Rattle.rules.specs.Refused.{firstFault, toldOutcome};
-ghost use Rattle.rules.specs.Printed.{programPolicy, programBank, programRequest, programFaults};
+ghost use Rattle.rules.specs.Stored.{storedPolicy, storedBank};
+ghost use Rattle.rules.specs.Printed.{programRequest, programFaults};
 ghost use Rattle.program_input.specs.Formed.{Formed, formedFaults};
 use bank::unchecked::input_of;
 use bank::unchecked::policy_of;
@@ -25,7 +26,7 @@ use stored_fields::lay_out;
 // Tag 1: the policy.
 pub fn policy_in(input: &[u8]) -> PolicySnapshot
     requires { ⌜ Formed (now input) ⌝ }
-    ensures { λ r. ⌜ r ≡ programPolicy (now (input .entry)) ⌝ }
+    ensures { λ r. ⌜ r ≡ storedPolicy (now (input .entry)) ⌝ }
 {
     policy_of(front_body(input))
 }
@@ -33,7 +34,7 @@ pub fn policy_in(input: &[u8]) -> PolicySnapshot
 // Tag 2: the bank.
 pub fn bank_in(input: &[u8]) -> &[u8]
     requires { ⌜ Formed (now input) ⌝ }
-    ensures { λ r. ⌜ now r ≡ programBank (now (input .entry)) ⌝ }
+    ensures { λ r. ⌜ now r ≡ storedBank (now (input .entry)) ⌝ }
 {
     front_body(after_front(input))
 }
@@ -48,7 +49,7 @@ pub fn request_in(input: &[u8]) -> KernelInput
 }
 
 // 20 to 22 over all three fields, then 19.
-fn opening(input: &[u8]) -> Outcome
+fn formed_outcome(input: &[u8]) -> Outcome
     ensures { λ r. ⌜ toldOutcome r ≡ firstFault (formedFaults (now (input .entry))) ⌝ }
 {
     let tags = [POLICY_TAG, BANK_TAG, REQUEST_TAG];
@@ -67,8 +68,8 @@ fn opening(input: &[u8]) -> Outcome
 pub fn program_outcome(input: &[u8]) -> Outcome
     ensures { λ r. ⌜ toldOutcome r ≡ firstFault (programFaults (now (input .entry))) ⌝ }
 {
-    let opened = opening(input);
-    if let Outcome::Refused(refusal) = opened {
+    let formed = formed_outcome(input);
+    if let Outcome::Refused(refusal) = formed {
         return Outcome::Refused(refusal);
     }
     let valid = catalog_outcome(policy_in(input), bank_in(input));

@@ -3,9 +3,9 @@ use Rattle.rules.proofs.Kit.{ℕ, suc, _+_, _*_, _-_, _≤_, _<_, _≡_, refl, 
 use Rattle.rules.proofs.Kit.{eqb-true, eqb, length, getD, drop, drop-cons, drop-length}
 use Rattle.rules.specs.{Choice.below, Choice.equal, Choice.pick, Text.text}
 use Rattle.rules.proofs.{Orders.lt-or-le, Choices.below-yes, Choices.below-no, Choices.equal-yes, Choices.equal-no}
-use Rattle.program_question.specs.{Question.numberAfter, Question.idOrUnclear, Question.aboutOf, Question.inWords, Question.sameText, Question.questionOf}
-use Rattle.program_question.specs.{declared.Question.Question, declared.Question.the-variants.Lines, declared.Question.the-variants.Words}
-use Rattle.program_question.specs.{declared.Question.the-variants.Unclear}
+use Rattle.program_question.specs.DeskQuestion.{numberAfter, idOrUnclear, aboutOf, inWords, sameText, questionOf}
+use Rattle.program_question.specs.{declared.DeskQuestion.DeskQuestion, declared.DeskQuestion.the-variants.Lines, declared.DeskQuestion.the-variants.Words}
+use Rattle.program_question.specs.{declared.DeskQuestion.the-variants.Unclear}
 
 -- A DIGIT goes to the end of the number
 pub digit-next : (n b : ℕ) (bs : List ℕ) → 48 ≤ b → b ≤ 57 → numberAfter n (b ∷ bs) ≡ numberAfter (n * 10 + (b - 48)) bs
@@ -78,7 +78,7 @@ digit-none b r e h = go (lt-or-le b 48)
     go (inr k) = let w : r ≡ b - 48 = e ∙ below-no b 48 10 (b - 48) k in inr (omega arith)
 
 -- WHAT IS LEFT of an argument, from a place on, after digits that said a number
-unfoldable pub left : List ℕ → ℕ → ℕ → Question
+unfoldable pub left : List ℕ → ℕ → ℕ → DeskQuestion
 left s i n = idOrUnclear (numberAfter n (drop i s))
 
 pub left-all : (s : List ℕ) → 0 < length s → aboutOf s ≡ left s 0 0
@@ -116,7 +116,7 @@ module _ (s : List ℕ) (i n r : ℕ) (inside : i < length s) (e : r ≡ below (
 
 -- WHAT THE ARGUMENTS ASK, by how many there are
 module _ (count : ℕ) (first second : List ℕ) where
-  pub ask-alone : {q : Question} → count ≡ 2 → q ≡ aboutOf first → q ≡ questionOf count first second
+  pub ask-alone : {q : DeskQuestion} → count ≡ 2 → q ≡ aboutOf first → q ≡ questionOf count first second
   unfolding questionOf
   ask-alone h e = e ∙ sym (equal-yes _ _ _ _ h)
 

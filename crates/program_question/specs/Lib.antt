@@ -1,2 +1,2 @@
 -- What the arguments ask.
-pub mod Question
+pub mod DeskQuestion

@@ -2,9 +2,9 @@
 ghost use mathlib.Core.Path.{_≡_};
 ghost use Prim.Native.Nat.{_-_};
 ghost use Rattle.rules.specs.Choice.{below};
-ghost use Rattle.program_question.specs.Question.{aboutOf, inWords, questionOf};
+ghost use Rattle.program_question.specs.DeskQuestion.{aboutOf, inWords, questionOf};
 
-pub enum Question {
+pub enum DeskQuestion {
     // An id alone.
     Lines(u32),
     // An id and `words`.
@@ -27,51 +27,51 @@ fn digit_value(byte: u8) -> u64
 }
 
 // The question about the id that decimal digits say; unclear where some byte is no digit, there is none, or no id is so high.
-fn about(text: &[u8]) -> Question
+fn about(text: &[u8]) -> DeskQuestion
     ensures { λ r. ⌜ r ≡ aboutOf (now (text .entry)) ⌝ }
 {
     if text.len() == 0 {
-        return Question::Unclear;
+        return DeskQuestion::Unclear;
     }
     let mut id: u64 = 0;
     let mut i = 0;
     while i < text.len() {
         let next = digit_value(text[i]);
         if 9 < next {
-            return Question::Unclear;
+            return DeskQuestion::Unclear;
         }
         id = id * 10 + next;
         if MAX_ID < id {
-            return Question::Unclear;
+            return DeskQuestion::Unclear;
         }
         i += 1;
     }
-    Question::Lines(id as u32)
+    DeskQuestion::Lines(id as u32)
 }
 
 // The same question, to be answered in words.
-fn in_words(question: Question) -> Question
+fn in_words(question: DeskQuestion) -> DeskQuestion
     ensures { λ r. ⌜ r ≡ inWords question ⌝ }
 {
     match question {
-        Question::Lines(id) => Question::Words(id),
-        Question::Words(id) => Question::Words(id),
-        Question::Unclear => Question::Unclear,
+        DeskQuestion::Lines(id) => DeskQuestion::Words(id),
+        DeskQuestion::Words(id) => DeskQuestion::Words(id),
+        DeskQuestion::Unclear => DeskQuestion::Unclear,
     }
 }
 
 // What so many arguments ask, the program's name counted among them, of which these are the two after it.
-pub fn question_of(count: usize, first: &[u8], second: &[u8]) -> Question
+pub fn question_of(count: usize, first: &[u8], second: &[u8]) -> DeskQuestion
     ensures { λ r. ⌜ r ≡ questionOf count (now (first .entry)) (now (second .entry)) ⌝ }
 {
     if count == 2 {
         return about(first);
     }
     if count != 3 {
-        return Question::Unclear;
+        return DeskQuestion::Unclear;
     }
     if check::same(second, b"words") {
         return in_words(about(first));
     }
-    Question::Unclear
+    DeskQuestion::Unclear
 }

@@ -104,7 +104,7 @@ requestFaults q place = tooHigh place 1 (q .«risk_bps») ++ tooHigh place 2 (q 
 unfoldable pub requestCheck : KernelInput → Option Fault
 requestCheck q = firstFault (requestFaults q 0)
 
--- `prescribe`, `prescribe_checked`, `prescribe_with_trace` and `prescribe_with_trace_checked` over a bank
+-- N23. `prescribe`, `prescribe_checked`, `prescribe_with_trace` and `prescribe_with_trace_checked` over a bank
 unfoldable pub prescribeOf : PolicySnapshot → KernelInput → List ℕ → Answer Decision
 prescribeOf p q bank = unless (bankFaults bank) refused (answered (decisionOf p q (listedOf bank)))
 

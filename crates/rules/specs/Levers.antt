@@ -53,7 +53,7 @@ pub record Question : Type 0 where
   pub id : ℕ
   pub model : KernelModel
 
--- The decision with a lever at a value, and whether it selects the id
+-- W2. The decision with a lever at a value, and whether it selects the id
 unfoldable pub decisionAt : Question → ℕ → ℕ → Decision
 decisionAt a lever v = decisionOf (a .policy) (a .request) (varied (a .id) (leverAt lever v (a .model)) (a .list))
 

@@ -21,7 +21,7 @@ readingOf bank place = firstFault (readingFaults bank place)
 unfoldable pub recordOf : List ℕ → ℕ → List ℕ
 recordOf bank place = unless (readingFaults bank place) (λ f. []) (recordPart bank place)
 
--- and where in the bank that part begins; the empty one begins where the bank does
+-- B5. And where in the bank that part begins; the empty one begins where the bank does
 unfoldable pub recordStart : List ℕ → ℕ → ℕ
 recordStart bank place = unless (readingFaults bank place) (λ f. 0) (recordBytes * place)
 
@@ -30,7 +30,7 @@ unfoldable pub firstListed : ℕ → List Listed → Option Listed
 firstListed id [] = none
 firstListed id (l ∷ ls) = equal (l .model .«model_id») id (some l) (firstListed id ls)
 
--- Its place: an answer also where there is none
+-- R1. Its place: an answer also where there is none
 abbrev pub placeOf : Option Listed → Option ℕ
 placeOf none = none
 placeOf (some l) = some (l .place)

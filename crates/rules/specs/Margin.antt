@@ -36,6 +36,6 @@ marginFor p q ls d = pick (isRejection d) (λ _. boundaryRefused (fault 6)) (λ 
 unfoldable pub marginIn : PolicySnapshot → KernelInput → List Listed → Boundary
 marginIn p q ls = marginFor p q ls (decisionOf p q ls)
 
--- `decision_margin` over a bank
+-- N23. `decision_margin` over a bank
 unfoldable pub decisionMarginOf : PolicySnapshot → KernelInput → List ℕ → Boundary
 decisionMarginOf p q bank = unless (bankFaults bank) boundaryRefused (marginIn p q (listedOf bank))

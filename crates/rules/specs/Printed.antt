@@ -5,7 +5,7 @@ use mathlib.Core.List.{List, [], _∷_, _++_, map}
 use mathlib.Core.Option.{Option, none, some}
 use lib.ListN.{length, take}
 use Rattle.rules.specs.Limits.{maxProgramModels}
-use Rattle.rules.specs.Records.{Listed, policyOf, inputOf, recordsIn, listedOf}
+use Rattle.rules.specs.Records.{Listed, inputOf, recordsIn, listedOf}
 use Rattle.rules.specs.Refused.{Fault, Faults, fault, roomFaults, listUnless, Answer, answered, unless, refused, refuseIf}
 use Rattle.rules.specs.Numbers.{Decision, Entry, Boundary}
 use Rattle.rules.specs.Listing.{firstListed}
@@ -14,7 +14,7 @@ use Rattle.rules.specs.Decide.{decisionOf, countsIn, requestFaults}
 use Rattle.rules.specs.Win.{winIn}
 use Rattle.rules.specs.Margin.{marginIn}
 use Rattle.rules.specs.Validate.{catalogFaults}
-use Rattle.rules.specs.Stored.{bodyOf, afterOf, formFaults}
+use Rattle.rules.specs.Stored.{bodyOf, afterOf, formFaults, storedPolicy, storedBank}
 use Rattle.rules.specs.Text.{text, decimal, signedDecimal, line}
 use Rattle.rules.specs.declared.records.KernelInput.{KernelInput}
 use Rattle.rules.specs.declared.records.PolicySnapshot.{PolicySnapshot}
@@ -50,6 +50,7 @@ leverLines (e ∷ es) = leverLine e ++ leverLines es
 abbrev pub entriesOf : Boundary → List Entry
 entriesOf b = take (b .count) (b .levers)
 
+-- X3. The passes that a question took
 unfoldable pub passesLine : ℕ → List ℕ
 passesLine n = line (text "passes") (decimal n ∷ [])
 
@@ -59,15 +60,9 @@ refusedLine f = line (text "refused") (decimal (f .number) ∷ [])
 
 -- ---- the unit's program
 
--- X3. What its input says: tag 1, tag 2, tag 3
-abbrev pub programPolicy : List ℕ → PolicySnapshot
-programPolicy input = policyOf (bodyOf input)
-
-abbrev pub programBank : List ℕ → List ℕ
-programBank input = bodyOf (afterOf input)
-
+-- X3. What its input says: tags 1 and 2 as in a stored form, tag 3
 abbrev pub programModels : List ℕ → List Listed
-programModels input = listedOf (programBank input)
+programModels input = listedOf (storedBank input)
 
 abbrev pub programRequest : List ℕ → KernelInput
 programRequest input = inputOf (bodyOf (afterOf (afterOf input)))
@@ -76,8 +71,8 @@ programRequest input = inputOf (bodyOf (afterOf (afterOf input)))
 unfoldable pub programFaults : List ℕ → Faults
 programFaults input =
     formFaults (1 ∷ 2 ∷ 3 ∷ []) input
-    ++ refuseIf (ltb maxProgramModels (recordsIn (length (programBank input)))) (fault 19)
-    ++ catalogFaults (programPolicy input) (programModels input)
+    ++ refuseIf (ltb maxProgramModels (recordsIn (length (storedBank input)))) (fault 19)
+    ++ catalogFaults (storedPolicy input) (programModels input)
     ++ requestFaults (programRequest input) 0
 
 -- X3. Decision, counts and margin; a rejection has no margin, so it prints the first two lines
@@ -85,7 +80,7 @@ unfoldable pub unitReport : PolicySnapshot → KernelInput → List Listed → L
 unitReport p q ls = decisionLine (decisionOf p q ls) ++ countsLine (countsIn p q ls) ++ leverLines (entriesOf (marginIn p q ls))
 
 unfoldable pub unitText : List ℕ → List ℕ
-unitText input = unless (programFaults input) refusedLine (unitReport (programPolicy input) (programRequest input) (programModels input))
+unitText input = unless (programFaults input) refusedLine (unitReport (storedPolicy input) (programRequest input) (programModels input))
 
 -- ---- the question from the desk: what would make a model win
 
@@ -97,12 +92,12 @@ unlistedFaults (some l) = []
 unfoldable pub askFaults : ℕ → List ℕ → Faults
 askFaults id input = programFaults input ++ unlistedFaults (firstListed id (programModels input))
 
--- The decision, the levers that win, the passes
+-- X3. The decision, the levers that win, the passes
 unfoldable pub askReport : Decision → Boundary → List ℕ
 askReport d b = decisionLine d ++ leverLines (entriesOf b) ++ passesLine (b .passes)
 
 abbrev pub askedOf : ℕ → List ℕ → Boundary
-askedOf id input = winIn (programPolicy input) (programRequest input) (programModels input) id
+askedOf id input = winIn (storedPolicy input) (programRequest input) (programModels input) id
 
 unfoldable pub askText : ℕ → List ℕ → List ℕ
 askText id input = unless (askFaults id input) refusedLine (askReport (askedOf id input .decision) (askedOf id input))

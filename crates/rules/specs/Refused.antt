@@ -77,7 +77,7 @@ toldTrusted t = toldOutcome (t .outcome)
 abbrev pub Faults : Type 0
 Faults = List Fault
 
--- A test: the fault where it holds
+-- N28. A test: the fault where it holds
 abbrev pub refuseIf : Bool → Fault → Faults
 refuseIf true f = f ∷ []
 refuseIf false f = []

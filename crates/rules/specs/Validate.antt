@@ -59,6 +59,6 @@ offFaults (l ∷ ls) = equal (l .model .enabled) 0 (offFaults ls) []
 unfoldable pub catalogFaults : PolicySnapshot → List Listed → Faults
 catalogFaults p ls = policyFaults p ++ emptyFaults ls ++ recordsFaults [] ls ++ offFaults ls
 
--- `validate` over a bank
+-- N23, N26. `validate` over a bank
 unfoldable pub validateOf : PolicySnapshot → List ℕ → Option Fault
 validateOf p bank = firstFault (bankFaults bank ++ catalogFaults p (listedOf bank))

@@ -48,6 +48,6 @@ winIfListed p q ls id (some l) = winFor (record { policy = p; request = q; list 
 unfoldable pub winIn : PolicySnapshot → KernelInput → List Listed → ℕ → Boundary
 winIn p q ls id = winIfListed p q ls id (firstListed id ls)
 
--- `what_would_win` over a bank
+-- N23. `what_would_win` over a bank
 unfoldable pub whatWouldWinOf : PolicySnapshot → KernelInput → List ℕ → ℕ → Boundary
 whatWouldWinOf p q bank id = unless (bankFaults bank) boundaryRefused (winIn p q (listedOf bank) id)

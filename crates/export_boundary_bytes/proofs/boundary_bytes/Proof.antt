@@ -1,10 +1,10 @@
--- `export_boundaries::boundary_bytes` meets its contract. Assumes nothing.
+-- `export_boundary_bytes::boundary_bytes` meets its contract. Assumes nothing.
 use Rattle.rules.proofs.Kit.{sym, _∙_, _++_, lit≤, length-map, needs}
 use Rattle.rules.specs.Numbers.{toldBoundaries}
-use Rattle.export_decision.specs.Layout.{uncountedBytes}
-use Rattle.export_boundaries.specs.Layout.{headBytes, boundaryBytes}
-use Rattle.export_boundaries.proofs.{Rooms.written-head, Rooms.room-more, Rooms.four-rooms, boundary_bytes.Statement.statement}
-use Rattle.export_boundaries.proofs.boundary_bytes.Tie as tie
+use Rattle.export_decision_bytes.specs.Layout.{uncountedBytes}
+use Rattle.export_boundary_bytes.specs.Layout.{headBytes, boundaryBytes}
+use Rattle.export_boundary_bytes.proofs.{Rooms.written-head, Rooms.room-more, Rooms.four-rooms, boundary_bytes.Statement.statement}
+use Rattle.export_boundary_bytes.proofs.boundary_bytes.Tie as tie
 
 returns : tie.Need-returns
 unfolding boundaryBytes

@@ -1,8 +1,8 @@
--- `export_boundaries::lever_bytes` meets its contract. Assumes nothing.
+-- `export_boundary_bytes::lever_bytes` meets its contract. Assumes nothing.
 use Rattle.rules.proofs.Kit.{needs}
-use Rattle.export_boundaries.specs.Layout.{leverBytes}
-use Rattle.export_boundaries.proofs.lever_bytes.Statement.{statement}
-use Rattle.export_boundaries.proofs.lever_bytes.Tie as tie
+use Rattle.export_boundary_bytes.specs.Layout.{leverBytes}
+use Rattle.export_boundary_bytes.proofs.lever_bytes.Statement.{statement}
+use Rattle.export_boundary_bytes.proofs.lever_bytes.Tie as tie
 
 returns : tie.Need-returns
 unfolding leverBytes

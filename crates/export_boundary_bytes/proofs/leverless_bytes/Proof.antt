@@ -1,9 +1,9 @@
--- `export_boundaries::leverless_bytes` meets its contract. Assumes nothing.
+-- `export_boundary_bytes::leverless_bytes` meets its contract. Assumes nothing.
 use Rattle.rules.proofs.Kit.{lit≤, replicate, needs}
 use Rattle.rules.specs.Numbers.{toldBoundaries}
-use Rattle.export_boundaries.specs.Layout.{boundarySize}
-use Rattle.export_boundaries.proofs.{Rooms.laid-head, leverless_bytes.Statement.statement}
-use Rattle.export_boundaries.proofs.leverless_bytes.Tie as tie
+use Rattle.export_boundary_bytes.specs.Layout.{boundarySize}
+use Rattle.export_boundary_bytes.proofs.{Rooms.laid-head, leverless_bytes.Statement.statement}
+use Rattle.export_boundary_bytes.proofs.leverless_bytes.Tie as tie
 
 returns : tie.Need-returns
 returns c =

@@ -1,7 +1,7 @@
--- `export_boundaries::put_lever_bytes` meets its contract. Assumes nothing.
+-- `export_boundary_bytes::put_lever_bytes` meets its contract. Assumes nothing.
 use Rattle.rules.proofs.Kit.{needs}
-use Rattle.export_boundaries.proofs.put_lever_bytes.Statement.{statement}
-use Rattle.export_boundaries.proofs.put_lever_bytes.Tie as tie
+use Rattle.export_boundary_bytes.proofs.put_lever_bytes.Statement.{statement}
+use Rattle.export_boundary_bytes.proofs.put_lever_bytes.Tie as tie
 
 returns : tie.Need-returns
 returns c =

@@ -1,7 +1,7 @@
 -- `export_calls::explain_delivered` meets its contract. Assumes nothing.
 use Rattle.rules.proofs.Kit.{sym, _∙_, arith, needs}
 use Rattle.rules.proofs.Faults.{none-told, unless-refused}
-use Rattle.export_checks.proofs.{Openings.opening-policy, Openings.opening-request, Openings.opening-room, Handed.both, Handed.tests-refused}
+use Rattle.export_checks.proofs.{Tests.call-policy, Tests.call-request, Tests.call-room, Handed.both, Handed.tests-refused}
 use Rattle.export_checks.proofs.{Handed.tests-passed}
 use Rattle.export_calls.proofs.explain_delivered.Statement.{statement}
 use Rattle.export_calls.proofs.explain_delivered.Tie as tie
@@ -10,24 +10,24 @@ returns : tie.Need-returns
 returns c =
     let at = c .before .before in
     both
-    (tests-refused _ _ _ _ (at .outcome .given .1) (at .before .before .opening-outcome .ensures) (c .refusal-word .ensures))
-    (sym (unless-refused _ _ _ (at .outcome .given .1) (at .before .before .opening-outcome .ensures)))
+    (tests-refused _ _ _ _ (at .outcome .given .1) (at .before .before .call-outcome .ensures) (c .refusal-word .ensures))
+    (sym (unless-refused _ _ _ (at .outcome .given .1) (at .before .before .call-outcome .ensures)))
 
 policy-of-requires : tie.Need-policy-of-requires
 policy-of-requires c κs =
-    let is = opening-policy _ _ _ (none-told _ (c .enum-told .given .1) (c .before .before .opening-outcome .ensures)) in
+    let is = call-policy _ _ _ (none-told _ (c .enum-told .given .1) (c .before .before .call-outcome .ensures)) in
     is
 
 input-of-requires : tie.Need-input-of-requires
 input-of-requires c κs =
     let e = c .before in
-    let is = opening-request _ _ _ (none-told _ (e .enum-told .given .1) (e .before .before .opening-outcome .ensures)) in
+    let is = call-request _ _ _ (none-told _ (e .enum-told .given .1) (e .before .before .call-outcome .ensures)) in
     is
 
 decision-handed-requires : tie.Need-decision-handed-requires
 decision-handed-requires c κs =
     let e = c .before .before .before .before .before .before .before in
-    let is = opening-room _ _ _ (none-told _ (e .enum-told .given .1) (e .before .before .opening-outcome .ensures)) in
+    let is = call-room _ _ _ (none-told _ (e .enum-told .given .1) (e .before .before .call-outcome .ensures)) in
     omega arith
 
 returns-2 : tie.Need-returns-2
@@ -35,7 +35,7 @@ returns-2 c =
     let core = c .before .before .before .before .before .before in
     let q = core .before .before in
     let e = q .before .before in
-    let none = none-told _ (e .enum-told .given .1) (e .before .before .opening-outcome .ensures) in
+    let none = none-told _ (e .enum-told .given .1) (e .before .before .call-outcome .ensures) in
     both
     (tests-passed _ _ _ _ none (core .explain .ensures .0 ∙ rw (q .before .policy-of .ensures, q .input-of .ensures))
     (c .before .before .decision-handed .ensures))

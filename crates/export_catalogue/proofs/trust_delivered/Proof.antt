@@ -2,7 +2,7 @@
 use Rattle.rules.proofs.Kit.{ap, _∙_, needs}
 use Rattle.rules.specs.{Refused.firstFault, Trust.trustOf, Trust.trustBank}
 use Rattle.export_checks.specs.Checks.{wordOf}
-use Rattle.export_checks.proofs.{Openings.size-other, Openings.size-same, Handed.both}
+use Rattle.export_checks.proofs.{Tests.size-other, Tests.size-same, Handed.both}
 use Rattle.export_catalogue.proofs.trust_delivered.Statement.{statement}
 use Rattle.export_catalogue.proofs.trust_delivered.Tie as tie
 

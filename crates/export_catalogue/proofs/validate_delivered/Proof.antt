@@ -2,7 +2,7 @@
 use Rattle.rules.proofs.Kit.{ap, _∙_, needs}
 use Rattle.rules.specs.{Refused.firstFault, Validate.validateOf}
 use Rattle.export_checks.specs.Checks.{wordOf}
-use Rattle.export_checks.proofs.Openings.{size-other, size-same}
+use Rattle.export_checks.proofs.Tests.{size-other, size-same}
 use Rattle.export_catalogue.proofs.validate_delivered.Statement.{statement}
 use Rattle.export_catalogue.proofs.validate_delivered.Tie as tie
 

@@ -1,10 +1,10 @@
--- `export_decision::decision_bytes` meets its contract: each write fills in one more count. Assumes nothing.
+-- `export_decision_bytes::decision_bytes` meets its contract: each write fills in one more count. Assumes nothing.
 use Rattle.rules.proofs.Kit.{refl, lit≤, replicate, needs}
 use Rattle.rules.specs.Numbers.{toldDecision}
 use Rattle.packing.proofs.Packing.{laid-more, laid-all}
-use Rattle.export_decision.specs.Layout.{decisionSize, decisionBytes}
-use Rattle.export_decision.proofs.{Bytes.laid-decision, decision_bytes.Statement.statement}
-use Rattle.export_decision.proofs.decision_bytes.Tie as tie
+use Rattle.export_decision_bytes.specs.Layout.{decisionSize, decisionBytes}
+use Rattle.export_decision_bytes.proofs.{Bytes.laid-decision, decision_bytes.Statement.statement}
+use Rattle.export_decision_bytes.proofs.decision_bytes.Tie as tie
 
 returns : tie.Need-returns
 unfolding decisionBytes

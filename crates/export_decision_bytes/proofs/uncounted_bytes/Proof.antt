@@ -1,10 +1,10 @@
--- `export_decision::uncounted_bytes` meets its contract: each write fills in one more field. Assumes nothing.
+-- `export_decision_bytes::uncounted_bytes` meets its contract: each write fills in one more field. Assumes nothing.
 use Rattle.rules.proofs.Kit.{_≡_, refl, ap, _∙_, arith, lit≤, replicate, length-set, w64, ofZ, toZ-ofZ, needs}
 use Rattle.rules.specs.Numbers.{actionNo, reasonNo}
 use Rattle.packing.proofs.Packing.{laid-none, laid-more, laid-all}
-use Rattle.export_decision.specs.Layout.{uncountedSize, uncountedBytes}
-use Rattle.export_decision.proofs.{Bytes.action-patch, uncounted_bytes.Statement.statement}
-use Rattle.export_decision.proofs.uncounted_bytes.Tie as tie
+use Rattle.export_decision_bytes.specs.Layout.{uncountedSize, uncountedBytes}
+use Rattle.export_decision_bytes.proofs.{Bytes.action-patch, uncounted_bytes.Statement.statement}
+use Rattle.export_decision_bytes.proofs.uncounted_bytes.Tie as tie
 
 -- both utilities go in as their 64 bits
 utility : (c : tie.After-signed-bits)

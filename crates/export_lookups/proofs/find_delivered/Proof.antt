@@ -1,7 +1,7 @@
 -- `export_lookups::find_delivered` meets its contract. Assumes nothing.
 use Rattle.rules.proofs.Kit.{arith, now, needs}
 use Rattle.rules.proofs.Faults.{none-told}
-use Rattle.export_checks.proofs.{Openings.lent-room, Handed.tests-refused, Handed.tests-passed}
+use Rattle.export_checks.proofs.{Tests.lent-room, Handed.tests-refused, Handed.tests-passed}
 use Rattle.export_lookups.proofs.find_delivered.Statement.{statement}
 use Rattle.export_lookups.proofs.find_delivered.Tie as tie
 

@@ -1,7 +1,7 @@
 -- `export_lookups::next_delivered` meets its contract. Assumes nothing.
 use Rattle.rules.proofs.Kit.{refl, needs}
 use Rattle.rules.proofs.Faults.{room-enough}
-use Rattle.export_checks.proofs.{Openings.room-first, Handed.first-handed, Handed.answer-delivered}
+use Rattle.export_checks.proofs.{Tests.room-first, Handed.first-handed, Handed.answer-delivered}
 use Rattle.export_lookups.proofs.next_delivered.Statement.{statement}
 use Rattle.export_lookups.proofs.next_delivered.Tie as tie
 

@@ -8,7 +8,7 @@ use Rattle.kernel_scan.specs.Places.{placedFrom}
 use Rattle.kernel_verdict.specs.{Verdict.countedOf, declared.Verdict.Verdict}
 use Rattle.kernel_verdict.specs.declared.Verdict.the-variants.{Rejected, OverBudget, NonPositive, Eligible}
 use Rattle.kernel_verdict.proofs.Verdict.{the-type}
-use Rattle.kernel_ranking.specs.{State.enteredOf, After.stateAfter, After.scanOf, declared.state.State.State}
+use Rattle.kernel_ranking.specs.{State.stateEntered, After.stateAfter, After.scanOf, declared.state.State.State}
 use Rattle.kernel_scan.proofs.{Scanning.scan-held, Scanning.scan-step, Scanning.scan-end, scan_on.Statement.statement}
 use Rattle.kernel_ranking.proofs.Verdicts.{scan-none}
 use Rattle.kernel_scan.proofs.scan_on.Tie as tie
@@ -74,7 +74,7 @@ loop-less-2 : tie.Need-loop-less-2 Inv-loop μ-loop
 loop-less-2 c = omega arith
 
 loop-again-2 : tie.Need-loop-again-2 Inv-loop μ-loop
-unfolding stateAfter enteredOf
+unfolding stateAfter stateEntered
 loop-again-2 c =
     let e = c .before .before .before in
     let d = e .before .before in

@@ -14,7 +14,7 @@ returns c = sym (equal-yes _ _ _ _ (c .if1 .taken))
 returns-2 : tie.Need-returns-2
 unfolding worthFrom
 returns-2 c =
-    let u = toZ-ofZ {w = w64} {z = c .utility-of .result} (record { sfits = c .utility-of .ok }) ∙ c .utility-of .ensures in
+    let u = toZ-ofZ {w = w64} {z = c .utility-of-score .result} (record { sfits = c .utility-of-score .ok }) ∙ c .utility-of-score .ensures in
     ap answered u ∙ sym (equal-no _ _ _ _ (c .before .before .before .if1 .left))
 
 pub worth-of-spec : {M : Type 1} → statement M

@@ -1,9 +1,9 @@
--- `program_input::opening` meets its contract. Assumes nothing.
+-- `program_input::formed_outcome` meets its contract. Assumes nothing.
 use Rattle.rules.proofs.Kit.{needs}
 use Rattle.program_input.specs.Formed.{formedFaults}
-use Rattle.program_input.proofs.{Tests.many-refused, Tests.few-pass, opening.Statement.statement}
+use Rattle.program_input.proofs.{Tests.many-refused, Tests.few-pass, formed_outcome.Statement.statement}
 use Rattle.rules.proofs.Faults.{append-refused, none-told}
-use Rattle.program_input.proofs.opening.Tie as tie
+use Rattle.program_input.proofs.formed_outcome.Tie as tie
 
 returns : tie.Need-returns
 unfolding formedFaults
@@ -24,6 +24,6 @@ returns-3 c =
     let e = b .before in
     few-pass _ (none-told _ (e .enum-told .given .1) (e .before .before .lay-out .ensures)) (b .bank-in .ensures) (c .if1 .left)
 
-pub opening-spec : {M : Type 1} → statement M
-opening-spec = tie.close (tie.spec (λ c. search needs) (λ c κs. search needs) (λ c. search needs) returns (λ c. search needs) bank-in-requires returns-2
+pub formed-outcome-spec : {M : Type 1} → statement M
+formed-outcome-spec = tie.close (tie.spec (λ c. search needs) (λ c κs. search needs) (λ c. search needs) returns (λ c. search needs) bank-in-requires returns-2
     returns-3)

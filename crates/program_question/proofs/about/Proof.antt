@@ -1,7 +1,7 @@
 -- `program_question::about` meets its contract. The loop's invariant: what is left says the rest of the question. Assumes nothing.
 use Rattle.rules.proofs.Kit.{_≤_, _-_, _≡_, _∙_, sym, arith, length, needs}
-use Rattle.program_question.specs.Question.{aboutOf}
-use Rattle.program_question.proofs.{Questions.left, Questions.left-all, Questions.left-none, Questions.left-end, Questions.left-stops, Questions.left-next}
+use Rattle.program_question.specs.DeskQuestion.{aboutOf}
+use Rattle.program_question.proofs.Questions.{left, left-all, left-none, left-end, left-stops, left-next}
 use Rattle.program_question.proofs.{Questions.left-over, about.Statement.statement}
 use Rattle.program_question.proofs.about.Tie as tie
 

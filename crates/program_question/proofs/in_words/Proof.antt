@@ -1,6 +1,6 @@
 -- `program_question::in_words` meets its contract. Assumes nothing.
 use Rattle.rules.proofs.Kit.{needs}
-use Rattle.program_question.specs.Question.{inWords}
+use Rattle.program_question.specs.DeskQuestion.{inWords}
 use Rattle.program_question.proofs.in_words.Statement.{statement}
 use Rattle.program_question.proofs.in_words.Tie as tie
 

@@ -1,7 +1,7 @@
 -- `program_question::question_of` meets its contract. Assumes nothing.
 use Rattle.rules.proofs.Kit.{sym, _∙_, ap, needs}
 use Rattle.rules.specs.Text.{text}
-use Rattle.program_question.specs.Question.{inWords}
+use Rattle.program_question.specs.DeskQuestion.{inWords}
 use Rattle.program_question.proofs.{Questions.ask-alone, Questions.ask-others, Questions.ask-unclear, Questions.ask-words, Questions.differ}
 use Rattle.program_question.proofs.{question_of.Statement.statement}
 use Rattle.program_question.proofs.question_of.Tie as tie

@@ -1,8 +1,8 @@
--- `gates_told::gate_detail` meets its contract, arm by arm. Assumes nothing.
+-- `rejections::gate_detail` meets its contract, arm by arm. Assumes nothing.
 use Rattle.rules.proofs.Kit.{ne-eqb, needs}
 use Rattle.rules.specs.{Choice.equal, Gates.detailOf}
-use Rattle.gates_told.proofs.gate_detail.Statement.{statement}
-use Rattle.gates_told.proofs.gate_detail.Tie as tie
+use Rattle.rejections.proofs.gate_detail.Statement.{statement}
+use Rattle.rejections.proofs.gate_detail.Tie as tie
 
 returns : tie.Need-returns
 unfolding detailOf equal

@@ -1,9 +1,9 @@
--- `gates_told::raised` meets its contract, arm by arm; 5 and 6 come as one range, and no gate's number on either side of 1 to 8. Assumes nothing.
+-- `rejections::raised` meets its contract, arm by arm; 5 and 6 come as one range, and no gate's number on either side of 1 to 8. Assumes nothing.
 use Rattle.rules.proofs.Kit.{inl, inr, needs}
 use Rattle.rules.specs.{Choice.equal, Count.gateReason, Count.raisedBy}
 use Rattle.rules.proofs.Reasons.{past, reason-none, reason-shared}
-use Rattle.gates_told.proofs.raised.Statement.{statement}
-use Rattle.gates_told.proofs.raised.Tie as tie
+use Rattle.rejections.proofs.raised.Statement.{statement}
+use Rattle.rejections.proofs.raised.Tie as tie
 
 returns : tie.Need-returns
 unfolding raisedBy gateReason equal

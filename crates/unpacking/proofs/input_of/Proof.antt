@@ -1,8 +1,8 @@
--- `bank_fields::input_of` meets its contract: each field is what its reading ensures. Assumes nothing.
+-- `unpacking::input_of` meets its contract: each field is what its reading ensures. Assumes nothing.
 use Rattle.rules.proofs.Kit.{ap, _∙_, w64, toZ, toZ-ofZ, needs}
 use Rattle.rules.specs.Records.{inputOf}
-use Rattle.bank_fields.proofs.input_of.Statement.{statement}
-use Rattle.bank_fields.proofs.input_of.Tie as tie
+use Rattle.unpacking.proofs.input_of.Statement.{statement}
+use Rattle.unpacking.proofs.input_of.Tie as tie
 
 returns : tie.Need-returns
 unfolding inputOf

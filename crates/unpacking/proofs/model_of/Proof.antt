@@ -1,9 +1,9 @@
--- `bank_fields::model_of` meets its contract: each field is what its reading ensures. Assumes nothing.
+-- `unpacking::model_of` meets its contract: each field is what its reading ensures. Assumes nothing.
 use Rattle.rules.proofs.Kit.{arith, now, needs}
 use Rattle.rules.specs.Records.{modelOf}
 use Rattle.endian.proofs.Spelled.{byte-at}
-use Rattle.bank_fields.proofs.model_of.Statement.{statement}
-use Rattle.bank_fields.proofs.model_of.Tie as tie
+use Rattle.unpacking.proofs.model_of.Statement.{statement}
+use Rattle.unpacking.proofs.model_of.Tie as tie
 
 returns : tie.Need-returns
 unfolding modelOf

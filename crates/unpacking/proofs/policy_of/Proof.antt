@@ -1,8 +1,8 @@
--- `bank_fields::policy_of` meets its contract: each field is what its reading ensures. Assumes nothing.
+-- `unpacking::policy_of` meets its contract: each field is what its reading ensures. Assumes nothing.
 use Rattle.rules.proofs.Kit.{needs}
 use Rattle.rules.specs.Records.{policyOf}
-use Rattle.bank_fields.proofs.policy_of.Statement.{statement}
-use Rattle.bank_fields.proofs.policy_of.Tie as tie
+use Rattle.unpacking.proofs.policy_of.Statement.{statement}
+use Rattle.unpacking.proofs.policy_of.Tie as tie
 
 returns : tie.Need-returns
 unfolding policyOf

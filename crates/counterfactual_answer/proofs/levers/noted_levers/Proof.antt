@@ -1,8 +1,8 @@
--- `counterfactual_answer::four_levers` meets its contract. Assumes nothing.
+-- `counterfactual_answer::noted_levers` meets its contract. Assumes nothing.
 use Rattle.rules.proofs.Kit.{needs, _≤_, arith, ap}
 use Rattle.counterfactual_answer.specs.Levers.{LeverRooms}
-use Rattle.counterfactual_answer.proofs.{Notes.note-passes, Notes.price-passes, Notes.four-noted, levers.four_levers.Statement.statement}
-use Rattle.counterfactual_answer.proofs.levers.four_levers.Tie as tie
+use Rattle.counterfactual_answer.proofs.{Notes.note-passes, Notes.price-passes, Notes.four-noted, levers.noted_levers.Statement.statement}
+use Rattle.counterfactual_answer.proofs.levers.noted_levers.Tie as tie
 
 -- ---- the passes are few
 
@@ -59,6 +59,6 @@ returns c =
     four-noted (a .model) (a .cost) (a .quality) (a .latency) (a .price) (a .ceiling) (n0 .no-levers .ensures)
     (n1 .note .ensures) (n2 .note2 .ensures) (n3 .note-price .ensures) (c .note3 .ensures)
 
-pub four-levers-spec : {M : Type 1} → statement M
-four-levers-spec = tie.close (tie.spec (λ c κs. search needs) (λ c. search needs) note-requires (λ c. search needs) note-requires-2 note-price-requires
+pub noted-levers-spec : {M : Type 1} → statement M
+noted-levers-spec = tie.close (tie.spec (λ c κs. search needs) (λ c. search needs) note-requires (λ c. search needs) note-requires-2 note-price-requires
     (λ c. search needs) note-requires-3 returns)

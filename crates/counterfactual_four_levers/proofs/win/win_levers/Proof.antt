@@ -19,10 +19,10 @@ second c = c .before .before .before .before
 abbrev first : tie.After-highest-true → tie.After-lowest-true
 first c = c .before .before .before .before
 
-abbrev made : tie.After-lowest-true → tie.After-held-of
+abbrev made : tie.After-lowest-true → tie.After-held-from
 made c = c .before .before .before .before
 
-abbrev start : tie.After-held-of → tie.Start
+abbrev start : tie.After-held-from → tie.Start
 start c = c .before .before .before .before .before .before .before .before
 
 -- ---- each lever's values fit its field
@@ -32,27 +32,27 @@ unfolding widest equal
 lowest-true-requires c κs =
     let h = c .before .before .before in
     let known = h .before .before .before .struct-known3 .given in
-    record { settled = h .held-of .ensures .4; within = omega arith }
+    record { settled = h .held-from .ensures .4; within = omega arith }
 
 highest-true-requires : tie.Need-highest-true-requires
 unfolding widest equal
 highest-true-requires c κs =
     let h = made (c .before .before .before) in
     let known = h .before .before .before .struct-known3 .given in
-    record { settled = h .held-of .ensures .4; within = omega arith }
+    record { settled = h .held-from .ensures .4; within = omega arith }
 
 highest-true-requires-2 : tie.Need-highest-true-requires-2
 unfolding widest equal
 highest-true-requires-2 c κs =
     let h = made (first (c .before .before .before)) in
-    record { settled = h .held-of .ensures .4; within = omega arith }
+    record { settled = h .held-from .ensures .4; within = omega arith }
 
 lowest-true-requires-2 : tie.Need-lowest-true-requires-2
 unfolding widest equal
 lowest-true-requires-2 c κs =
     let h = made (first (second (c .before .before .before))) in
     let known = h .before .before .before .struct-known3 .given in
-    record { settled = h .held-of .ensures .4; within = omega arith }
+    record { settled = h .held-from .ensures .4; within = omega arith }
 
 price-cost-requires : tie.Need-price-cost-requires
 price-cost-requires c κs = start (made (first (second (third c)))) .pre
@@ -64,8 +64,8 @@ latency-few c =
     let known = made (first c) .before .before .before .struct-known3 .given in
     search-few Highest _ _ _ (c .highest-true .ensures) (omega arith)
 
-four-levers-requires : tie.Need-four-levers-requires
-four-levers-requires c κs =
+noted-levers-requires : tie.Need-noted-levers-requires
+noted-levers-requires c κs =
     let l4 = c .before in
     let l3 = third l4 in
     let l2 = second l3 in
@@ -91,9 +91,9 @@ returns c =
     let v = h .before in
     let q = v .before .request-held .ensures in
     let m = v .model-held .ensures in
-    let n = h .held-of .ensures in
+    let n = h .held-from .ensures in
     let s = start h .pre in
-    four-sought _ (c .four-levers .ensures) (p .price-cost .ensures)
+    four-sought _ (c .noted-levers .ensures) (p .price-cost .ensures)
     (searched-so _ _ s _ _ _ q m n Lowest 1 _ _ (l1 .lowest-true .ensures))
     (searched-so _ _ s _ _ _ q m n Highest 2 _ _ (l2 .highest-true .ensures))
     (searched-so _ _ s _ _ _ q m n Highest 3 _ _ (l3 .highest-true2 .ensures))
@@ -102,4 +102,4 @@ returns c =
 pub win-levers-spec : {M : Type 1} → statement M
 win-levers-spec = tie.close (tie.spec (λ c. search needs) (λ c. search needs) (λ c. search needs) (λ c. search needs) (λ c κs. search needs)
     (λ c κs. search needs) (λ c κs. search needs) lowest-true-requires highest-true-requires highest-true-requires-2 lowest-true-requires-2 price-cost-requires
-    four-levers-requires returns)
+    noted-levers-requires returns)

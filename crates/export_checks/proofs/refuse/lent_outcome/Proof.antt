@@ -2,8 +2,8 @@
 use Rattle.rules.proofs.Kit.{lt-ltb, le-ltb, needs}
 use Rattle.rules.proofs.Faults.{append-passed, append-refused}
 use Rattle.rules.specs.Refused.{roomFaults, firstFault, toldOutcome}
-use Rattle.export_checks.proofs.opening.lent_outcome.Statement.{statement}
-use Rattle.export_checks.proofs.opening.lent_outcome.Tie as tie
+use Rattle.export_checks.proofs.refuse.lent_outcome.Statement.{statement}
+use Rattle.export_checks.proofs.refuse.lent_outcome.Tie as tie
 
 returns : tie.Need-returns
 returns c = append-refused _ _ (c .before .outcome .given .1) (c .before .before .before .bank-outcome .ensures)

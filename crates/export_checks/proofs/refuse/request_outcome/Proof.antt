@@ -2,8 +2,8 @@
 use Rattle.rules.proofs.Kit.{eq-eqb, ne-eqb, _∙_, needs}
 use Rattle.rules.specs.Refused.{firstFault, toldOutcome}
 use Rattle.export_checks.specs.Checks.{sizeFaults}
-use Rattle.export_checks.proofs.opening.request_outcome.Statement.{statement}
-use Rattle.export_checks.proofs.opening.request_outcome.Tie as tie
+use Rattle.export_checks.proofs.refuse.request_outcome.Statement.{statement}
+use Rattle.export_checks.proofs.refuse.request_outcome.Tie as tie
 
 returns : tie.Need-returns
 unfolding sizeFaults firstFault toldOutcome

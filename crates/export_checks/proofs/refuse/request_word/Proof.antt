@@ -1,8 +1,8 @@
 -- `export_checks::request_word` meets its contract. Assumes nothing.
 use Rattle.rules.proofs.Kit.{ap, _∙_, needs}
 use Rattle.export_checks.specs.Checks.{wordOf}
-use Rattle.export_checks.proofs.opening.request_word.Statement.{statement}
-use Rattle.export_checks.proofs.opening.request_word.Tie as tie
+use Rattle.export_checks.proofs.refuse.request_word.Statement.{statement}
+use Rattle.export_checks.proofs.refuse.request_word.Tie as tie
 
 pub request-word-spec : {M : Type 1} → statement M
 request-word-spec =

@@ -1,7 +1,7 @@
 -- `export_forms::request_form_delivered` meets its contract. Assumes nothing.
 use Rattle.rules.proofs.Kit.{needs}
 use Rattle.rules.specs.Stored.{writeRequestOf, writeRequestBuffer}
-use Rattle.export_checks.proofs.{Handed.first-handed, Openings.size-other, Openings.size-same}
+use Rattle.export_checks.proofs.{Handed.first-handed, Tests.size-other, Tests.size-same}
 use Rattle.export_forms.proofs.{Answering.written-so, forms.request_form_delivered.Statement.statement}
 use Rattle.export_forms.proofs.forms.request_form_delivered.Tie as tie
 

@@ -2,7 +2,7 @@
 use Rattle.rules.proofs.Kit.{_≡_, refl, [], now, length, needs}
 use Rattle.rules.proofs.Faults.{append-refused, none-told}
 use Rattle.export_checks.specs.Checks.{wordSize, lentFaults}
-use Rattle.export_checks.proofs.{Openings.lent-room, Handed.tests-refused, Handed.first-handed, Handed.answer-delivered}
+use Rattle.export_checks.proofs.{Tests.lent-room, Handed.tests-refused, Handed.first-handed, Handed.answer-delivered}
 use Rattle.export_forms.proofs.{Answering.place-beyond, Answering.place-within, offset.offset_delivered.Statement.statement}
 use Rattle.export_forms.proofs.offset.offset_delivered.Tie as tie
 

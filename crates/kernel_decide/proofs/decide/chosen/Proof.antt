@@ -8,8 +8,10 @@ use Rattle.kernel_decide.proofs.decide.chosen.Tie as tie
 returns : tie.Need-returns
 unfolding chosenFrom
 returns c =
-    let best = toZ-ofZ {w = w64} {z = c .before .utility-of .result} (record { sfits = c .before .utility-of .ok }) ∙ c .before .utility-of .ensures in
-    let second = toZ-ofZ {w = w64} {z = c .utility-of2 .result} (record { sfits = c .utility-of2 .ok }) ∙ c .utility-of2 .ensures in
+    let first = c .before .utility-of-score in
+    let next = c .utility-of-score2 in
+    let best = toZ-ofZ {w = w64} {z = first .result} (record { sfits = first .ok }) ∙ first .ensures in
+    let second = toZ-ofZ {w = w64} {z = next .result} (record { sfits = next .ok }) ∙ next .ensures in
     rw (c .before .before .before .action-of .ensures, c .before .before .reason-of .ensures, best, second)
 
 pub chosen-spec : {M : Type 1} → statement M

@@ -8,7 +8,7 @@ returns : tie.Need-returns
 unfolding utilityTermsOf
 returns c =
     let t = c .before .before .before .before .args .t in
-    let u = toZ-ofZ w64 (c .utility-of .result) (record { sfits = c .utility-of .ok }) ∙ c .utility-of .ensures in
+    let u = toZ-ofZ w64 (c .utility-of-score .result) (record { sfits = c .utility-of-score .ok }) ∙ c .utility-of-score .ensures in
     λ i. record {
       «quality_adjusted» = t .«quality_adjusted»;
       «risk_penalty» = t .«risk_penalty»;
