@@ -2,7 +2,9 @@
  * null, also where the length is 0.
  *
  * A policy is 30 bytes: policy epoch u64, catalogue epoch u64, hard risk limit, minimum confidence, risk multiplier (u16 each), latency
- * penalty per ms u64.
+ * penalty per ms u64; or 31, the last of which says how it rounds, u8. A cost is tokens times price by the million tokens, input and output, rounded
+ * up to whole microunits and at most 2^64 - 1: with 0, as with 30 bytes, each of the two is rounded up apart and then they are added; with 1 they
+ * are added and the sum is rounded up once. One token each way at price 1 costs 2 apart, and 1 once.
  * A request is 70 bytes: sequence u64, requested model u32, input tokens u32, output tokens u32, value i64, budget u64, risk, confidence,
  * minimum quality (u16 each), latency limit u32, required capabilities u64, allowed providers u64, required regions u64.
  * A bank is any number of models up to 65,535, of 47 bytes each: id u32, provider u16, quality u16, ceiling u16, enabled u8, latency u32,
@@ -12,16 +14,19 @@
  * A provider's number is its bit in the mask of allowed ones, and all ones allow each up to 63. A model needs every required capability and, where
  * regions are required, one of them.
  *
- * A form is a row of fields. A field is a tag u8, the length of its body u16, and the body: a policy under tag 1; a bank of at most 1,394
- * records under tag 2; a request under tag 3. A stored form is tag 1, then tag 2; a request form is tag 3 alone.
+ * A form is a row of fields. A field is a tag u8, the length of its body u16, and the body: the 30 bytes of a policy under tag 1; a bank of at
+ * most 1,394 records under tag 2; a request under tag 3; one byte, 1, under tag 4, for a policy that rounds once. A stored form is tag 1, then tag
+ * 2, then tag 4 where the policy rounds once and nothing where it rounds apart; a request form is tag 3 alone.
  * A form is read field by field, and the first fault comes back: no byte where a field is due, 21; a cut tag or length, 20; another tag, 21;
- * a length that the tag does not have, 22; a cut body, 20; and after the last field any byte, 21. So of a stored form 01 1f 00 09 is 22,
- * 09 1e 00 00 is 21, 01 1e 00 is 20.
+ * a length that the tag does not have, 22; a cut body, 20; another body of tag 4 than 1, 23; and after the last field any byte, 21. A byte 4 after
+ * the bank begins tag 4, and without one the policy rounds apart. So of a stored form 01 1f 00 09 is 22, 09 1e 00 00 is 21, 01 1e 00 is 20; and after
+ * its bank 04 is 20, 05 is 21, 04 02 00 is 22, 04 01 00 00 is 23, and 04 01 00 01 twice is 21.
  *
  * Every function takes any bytes. It answers 0 and writes its answer to the start of `out`, or answers a refusal and writes nothing (but for
  * volankizo_trust, see there); bytes of `out` after the answer stay as they were. A buffer that is written overlaps nothing else that is lent.
  * Of several refusals the first in the order given with each function comes back, of a form's the first in the order above:
- *   22  a policy is not 30 bytes long, or a request not 70; in a form, a field has a length that its tag does not have
+ *   22  a policy is neither 30 bytes long nor 31, or a request not 70; in a form, a field has a length that its tag does not have
+ *   23  the 31st byte of a policy is neither 0 nor 1; in a form, the body of tag 4 is not 1
  *    1  the bank's length is no multiple of 47
  *    2  the bank has more than 65,535 records
  *    4  a buffer is too short for what it is to hold
@@ -70,6 +75,7 @@ extern "C" {
 
 #define VOLANKIZO_RECORD_BYTES 47
 #define VOLANKIZO_POLICY_BYTES 30
+#define VOLANKIZO_LONGEST_POLICY_BYTES 31
 #define VOLANKIZO_REQUEST_BYTES 70
 #define VOLANKIZO_DECISION_BYTES 83
 #define VOLANKIZO_UNCOUNTED_BYTES 65
@@ -81,14 +87,19 @@ extern "C" {
 #define VOLANKIZO_OFFSET_BYTES 8
 #define VOLANKIZO_FIELD_HEADER_BYTES 3
 #define VOLANKIZO_MAX_STORED_MODELS 1394
-#define VOLANKIZO_STORED_POLICY_BYTES 38
+#define VOLANKIZO_ROUNDING_FIELD_BYTES 4
+#define VOLANKIZO_STORED_POLICY_BYTES 39
 #define VOLANKIZO_REQUEST_FORM_BYTES 73
 #define VOLANKIZO_UNIT_TEXT_BYTES 848
 #define VOLANKIZO_ASK_TEXT_BYTES 678
 #define VOLANKIZO_ASK_WORDS_BYTES 808
 
-/* The bytes of a stored form with a bank of so many bytes. */
+/* The bytes of a stored form with a bank of so many bytes, where the policy rounds apart; VOLANKIZO_ROUNDING_FIELD_BYTES more where it rounds once. */
 #define VOLANKIZO_STORED_FORM_BYTES(bank_len) ((size_t)(bank_len) + 36)
+
+/* The 31st byte of a policy. */
+#define VOLANKIZO_ROUNDS_APART 0
+#define VOLANKIZO_ROUNDS_ONCE 1
 
 /* The parts of a refusal. */
 #define VOLANKIZO_NUMBER(word) ((unsigned)((word) & 0xff))
@@ -99,15 +110,15 @@ extern "C" {
 /* Decides. 83 bytes: sequence u64 at 0, action u8 at 8, reason u16 at 9, model u32 at 11, place u16 at 15, cost u64 at 17, utility i64 at 25,
  * counterfactual model u32 at 33, its utility i64 at 37, evaluated u16 at 45, eligible u16 at 47, policy epoch u64 at 49, catalogue epoch u64
  * at 57; then nine counts of u16 from 65 on: disabled, quality, ceiling, latency, capability, provider, region, budget, utility.
- * Refusals: 22, 1, 2, 4. */
+ * Refusals: 22 (of the policy or of the request), 23, 1, 2, 4. */
 uint64_t volankizo_prescribe(const uint8_t *policy, size_t policy_len, const uint8_t *request, size_t request_len, const uint8_t *bank,
                              size_t bank_len, uint8_t *out, size_t out_len);
 
-/* The same for a checked request. Refusals: 22, 1, 2, 4, 3. */
+/* The same for a checked request. Refusals: 22, 23, 1, 2, 4, 3. */
 uint64_t volankizo_prescribe_checked(const uint8_t *policy, size_t policy_len, const uint8_t *request, size_t request_len,
                                      const uint8_t *bank, size_t bank_len, uint8_t *out, size_t out_len);
 
-/* The utility of the first listed record with an id: 8 bytes, i64. Refusals: 22, 1, 2, 4, 7. */
+/* The utility of the first listed record with an id: 8 bytes, i64. Refusals: 22, 23, 1, 2, 4, 7. */
 uint64_t volankizo_utility_for_model(const uint8_t *policy, size_t policy_len, const uint8_t *request, size_t request_len,
                                      const uint8_t *bank, size_t bank_len, uint32_t id, uint8_t *out, size_t out_len);
 
@@ -121,7 +132,7 @@ uint64_t volankizo_check_request(const uint8_t *request, size_t request_len);
  * record, in the order of the bank, and none where the request is stopped by 100 or 101: model u32 at 0, place u16 at 4, verdict u8 at 6
  * (1 to 4), gate u8 at 7 (1 to 8, else 0), measured, cost or quality term at 8 and limit, budget or risk term at 24 (16 bytes each, for
  * verdicts 1, 2, and 3 or 4), cost u64 at 40, latency term at 48 (16 bytes), utility i64 at 64; from 40 on zero for verdicts 1 and 2. Bytes of
- * `list` after the last entry stay. Refusals: 22, 1, 2, 4 (of either buffer). */
+ * `list` after the last entry stay. Refusals: 22, 23, 1, 2, 4 (of either buffer). */
 uint64_t volankizo_explain(const uint8_t *policy, size_t policy_len, const uint8_t *request, size_t request_len, const uint8_t *bank,
                            size_t bank_len, uint8_t *list, size_t list_len, uint8_t *out, size_t out_len);
 
@@ -129,11 +140,11 @@ uint64_t volankizo_explain(const uint8_t *policy, size_t policy_len, const uint8
  * be asked about; a part of an entry at their end, where they are no multiple of 72, is ignored. Refusals: 4. */
 uint64_t volankizo_next_eligible(const uint8_t *list, size_t list_len, uint64_t from, uint8_t *out, size_t out_len);
 
-/* Whether a policy with its bank may serve. Writes nothing. Refusals: 22, 1, 2, 10, 11, then record by record 12, 13, 14, then 15. */
+/* Whether a policy with its bank may serve. Writes nothing. Refusals: 22, 23, 1, 2, 10, 11, then record by record 12, 13, 14, then 15. */
 uint64_t volankizo_validate(const uint8_t *policy, size_t policy_len, const uint8_t *bank, size_t bank_len);
 
-/* Puts the bank in ascending id order, equal ids in their old order, and validates it. Refusals that leave the bank as it was: 22, 1, 2, 16,
- * 17; then, with the bank in order, 10, 11, record by record 12, 13, 14, then 15. */
+/* Puts the bank in ascending id order, equal ids in their old order, and validates it. Refusals that leave the bank as it was: 22, 23, 1, 2,
+ * 16, 17; then, with the bank in order, 10, 11, record by record 12, 13, 14, then 15. */
 uint64_t volankizo_trust(const uint8_t *policy, size_t policy_len, uint8_t *bank, size_t bank_len);
 
 /* For a model that was not selected, by each lever alone: the smallest change after which it is. 183 bytes: the decision without its counts at
@@ -142,26 +153,27 @@ uint64_t volankizo_trust(const uint8_t *policy, size_t policy_len, uint8_t *bank
  * where a cost is carried, by the price alone), cost u64 at 18. Each lever that is listed is enough by itself. Searched are quality and ceiling
  * from today to 10,000, latency and price scale from today down to 0; a lever by which the model wins nowhere there is not listed. Of a model
  * that is off only enabled is tried. A stopped request, or an id that is selected already, has no lever and 1 pass.
- * Refusals: 22, 1, 2, 4, 5. */
+ * Refusals: 22, 23, 1, 2, 4, 5. */
 uint64_t volankizo_what_would_win(const uint8_t *policy, size_t policy_len, const uint8_t *request, size_t request_len, const uint8_t *bank,
                                   size_t bank_len, uint32_t id, uint8_t *out, size_t out_len);
 
 /* For the model that was selected: how far each lever can move before it is not. The same 183 bytes; a boundary is the last setting that
  * keeps the choice. Searched are quality and ceiling from today down to 0, latency up to 2^32 - 1, price scale up to 1,000,000,000. Quality is
- * always listed; another lever that is not listed cannot lose the choice within its range. Refusals: 22, 1, 2, 4, 6. */
+ * always listed; another lever that is not listed cannot lose the choice within its range. Refusals: 22, 23, 1, 2, 4, 6. */
 uint64_t volankizo_decision_margin(const uint8_t *policy, size_t policy_len, const uint8_t *request, size_t request_len,
                                    const uint8_t *bank, size_t bank_len, uint8_t *out, size_t out_len);
 
 /* Where the record at a place of a bank begins: 8 bytes, u64, its offset in the bank; the record is the 47 bytes there. Refusals: 1, 2, 4, 8. */
 uint64_t volankizo_record_at(const uint8_t *bank, size_t bank_len, uint64_t place, uint8_t *out, size_t out_len);
 
-/* Writes the stored form of a policy with its bank: 36 bytes more than the bank has. Refusals: 22, 1, 2, 18, 4. */
+/* Writes the stored form of a policy with its bank: 36 bytes more than the bank has, and 40 where the policy rounds once.
+ * Refusals: 22, 23, 1, 2, 18, 4. */
 uint64_t volankizo_write_stored(const uint8_t *policy, size_t policy_len, const uint8_t *bank, size_t bank_len, uint8_t *out,
                                 size_t out_len);
 
-/* Reads a stored form. The models' bytes go to the start of `bank`, whose other bytes stay; `out`: 38 bytes, the policy at 0, the length of
- * the models' bytes u64 at 30. Neither buffer is written before the form's end was seen and both have room; nothing is validated or put in
- * order. Refusals: those of a form (20, 21, 22, in the order told above), then 4 (of either buffer). */
+/* Reads a stored form. The models' bytes go to the start of `bank`, whose other bytes stay; `out`: 39 bytes, the policy in 31 bytes at 0, the
+ * length of the models' bytes u64 at 31. Neither buffer is written before the form's end was seen and both have room; nothing is validated or put
+ * in order. Refusals: those of a form (20 to 23, in the order told above), then 4 (of either buffer). */
 uint64_t volankizo_read_stored(const uint8_t *form, size_t form_len, uint8_t *bank, size_t bank_len, uint8_t *out, size_t out_len);
 
 /* Writes the request form: 73 bytes. Refusals: 22, 4. */
@@ -170,11 +182,11 @@ uint64_t volankizo_write_request(const uint8_t *request, size_t request_len, uin
 /* Reads a request form: 70 bytes, the request. Refusals: those of a form (20, 21, 22, in the order told above), then 4. */
 uint64_t volankizo_read_request(const uint8_t *form, size_t form_len, uint8_t *out, size_t out_len);
 
-/* What the unit's program prints for an input of tags 1, 2 and 3: the text's length in bytes u64 at 0, the text from 8 on, in ASCII with a
- * newline after each line and no zero after the last. 848 bytes always suffice. The lines: `decision` and its numbers, `rejected` and the
- * nine counts, both in the order above; for each lever of the margin `lever`, its number, today's value, the boundary, and the cost or `-`. An
- * input that the program refuses is answered too: its text is `refused` and the number, by a form's faults, then 19, then as by
- * volankizo_validate, then 3. Refusals: 4. */
+/* What the unit's program prints for an input of tags 1, 2, 4 where the policy rounds once, and 3: the text's length in bytes u64 at 0, the text
+ * from 8 on, in ASCII with a newline after each line and no zero after the last. 848 bytes always suffice. The lines: `decision` and its numbers,
+ * `rejected` and the nine counts, both in the order above; for each lever of the margin `lever`, its number, today's value, the boundary, and the
+ * cost or `-`. An input that the program refuses is answered too: its text is `refused` and the number, by a form's faults (one or two bytes
+ * after the bank are 20 whatever they are, since a request is due), then 19, then as by volankizo_validate, then 3. Refusals: 4. */
 uint64_t volankizo_unit_text(const uint8_t *input, size_t input_len, uint8_t *out, size_t out_len);
 
 /* The same for what would make a model win, as `ask ID` prints it: `decision`, a `lever` for each that wins by itself, `passes` and their

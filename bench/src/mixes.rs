@@ -2,6 +2,7 @@
 use compare::generate::random::Random;
 use compare::generate::Setting;
 use compare::second::bytes::Policy;
+use compare::second::rules::Rounding;
 use oracle::kernel::{KernelInput, KernelModel};
 
 /// How a model ends: at gate 1 to 8, over budget (9), with no positive utility (10), or eligible (11).
@@ -92,6 +93,7 @@ impl Mix {
             minimum_confidence_bps: 2_000,
             risk_penalty_multiplier_bps: 10_000,
             latency_penalty_microunits_per_ms: 50 * self.scale(),
+            rounding: Rounding::Apart,
         }
     }
 

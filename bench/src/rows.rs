@@ -8,6 +8,7 @@ use compare::case::Case;
 use compare::generate::random::Random;
 use compare::generate::Setting;
 use compare::second::bytes::{bank_bytes, policy_bytes};
+use compare::second::rules::Rounding;
 use oracle::counterfactual;
 use oracle::kernel::{KernelModel, PolicySnapshot};
 use std::hint::black_box;
@@ -36,9 +37,11 @@ pub enum Checked {
 pub fn each(only: &str, checked: Checked, visit: &mut dyn FnMut(Row)) {
     let wanted = |call: &str, records: usize| format!("{call} {records}").starts_with(only);
     let some = [Mix::Mixed, Mix::MostlyEligible, Mix::Spread, Mix::Beyond];
+    let priced = [Mix::Mixed, Mix::MostlyEligible, Mix::Dear, Mix::Beyond];
     type Asking = fn(Asked, &mut dyn FnMut(Row));
-    let asking: [(&str, Asking, &[usize], &[Mix]); 4] = [
+    let asking: [(&str, Asking, &[usize], &[Mix]); 5] = [
         ("prescribe", prescribe, &SIZES, &Mix::ALL),
+        (ONCE, prescribe, &SIZES[..2], &priced),
         ("margin", margin, &SIZES, &some),
         ("what would win", win, &SIZES, &some),
         ("explain", explain, &[UNIT], &some),
@@ -57,6 +60,9 @@ pub fn each(only: &str, checked: Checked, visit: &mut dyn FnMut(Row)) {
     }
 }
 
+/// `prescribe` under a policy that rounds once, beside the same models and requests under one that rounds apart. The Rust's sides round apart.
+const ONCE: &str = "prescribe once";
+
 /// A short list, the unit's, and the longest.
 const SIZES: [usize; 3] = [22, UNIT, 65_535];
 const UNIT: usize = 900;
@@ -65,7 +71,7 @@ const UNIT: usize = 900;
 fn requests(call: &str, records: usize) -> usize {
     match (call, records) {
         ("explain", _) => 4,
-        (_, 22) | ("prescribe", UNIT) => 16,
+        (_, 22) | ("prescribe" | ONCE, UNIT) => 16,
         ("prescribe", _) | (_, UNIT) => 2,
         _ => 1,
     }
@@ -84,7 +90,10 @@ struct Asked {
 
 impl Asked {
     fn of(call: &'static str, mix: Mix, records: usize, checked: Checked) -> Self {
-        let settings = mix.settings(records, requests(call, records));
+        let mut settings = mix.settings(records, requests(call, records));
+        if call == ONCE {
+            settings.iter_mut().for_each(|setting| setting.policy.rounding = Rounding::Once);
+        }
         let cases = settings.iter().map(|setting| Case { bank: Vec::new(), ..setting.case(0) }).collect();
         let (snapshot, bank) = (settings[0].snapshot(), bank_bytes(&settings[0].models));
         Asked { call, mix, checked, settings, snapshot, cases, bank }

@@ -6,6 +6,7 @@ use compare::calls::{Call, Handed, CALLS};
 use compare::generate::random::Random;
 use compare::generate::Setting;
 use compare::second::bytes::{bank_bytes, policy_bytes, request_bytes};
+use compare::second::rules::Rounding;
 use std::arch::asm;
 use std::collections::BTreeSet;
 use std::hint::black_box;
@@ -98,7 +99,7 @@ fn deepest(call: &Call, settings: &[Setting]) -> usize {
 
 /// Every mix, so that the ways by two limbs are among them. Each as it is, in disorder, so that the ordering is among them, and then with the
 /// highest latency for every model and no limit on it, which is the widest range of a search. Each of these once more with providers that
-/// a bank may have, since one that doesn't validate prints nothing but its refusal.
+/// a bank may have, since one that doesn't validate prints nothing but its refusal. And all of them with a policy that rounds once.
 fn settings() -> Vec<Setting> {
     let mut all: Vec<Setting> = Mix::ALL.iter().flat_map(|mix| mix.settings(22, 4)).collect();
     for mut setting in all.clone() {
@@ -111,6 +112,10 @@ fn settings() -> Vec<Setting> {
     }
     for mut setting in all.clone() {
         setting.models.iter_mut().for_each(|model| model.provider_id %= 64);
+        all.push(setting);
+    }
+    for mut setting in all.clone() {
+        setting.policy.rounding = Rounding::Once;
         all.push(setting);
     }
     all

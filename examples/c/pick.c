@@ -11,6 +11,7 @@
 #include "volankizo.h"
 
 enum { MODELS = 2, BANK_BYTES = MODELS * VOLANKIZO_RECORD_BYTES, LIST_BYTES = MODELS * VOLANKIZO_EXPLANATION_BYTES };
+/* The policy of `write_input` rounds apart; one that rounds once takes VOLANKIZO_ROUNDING_FIELD_BYTES more. */
 enum { STORED_BYTES = VOLANKIZO_STORED_FORM_BYTES(BANK_BYTES), INPUT_BYTES = STORED_BYTES + VOLANKIZO_REQUEST_FORM_BYTES };
 
 /* Writes a number, lowest byte first, and hands back where the next one goes. */
@@ -47,14 +48,16 @@ static void must(const char *call, uint64_t word)
     exit(1);
 }
 
-static void put_policy(uint8_t policy[VOLANKIZO_POLICY_BYTES])
+/* How it rounds may be left out: 30 bytes are a policy that rounds apart. */
+static void put_policy(uint8_t policy[VOLANKIZO_LONGEST_POLICY_BYTES], uint8_t rounding)
 {
     uint8_t *at = put(policy, 8, 7); /* policy epoch */
     at = put(at, 8, 3);              /* catalogue epoch */
     at = put(at, 2, 9000);           /* hard risk limit */
     at = put(at, 2, 2000);           /* minimum confidence */
     at = put(at, 2, 10000);          /* risk multiplier */
-    put(at, 8, 10);                  /* latency penalty per ms */
+    at = put(at, 8, 10);             /* latency penalty per ms */
+    put(at, 1, rounding);
 }
 
 static uint8_t *put_model(uint8_t *at, uint32_t id, uint16_t provider, uint16_t quality, uint32_t latency, uint64_t capabilities,
@@ -133,7 +136,8 @@ static void print_levers(const uint8_t *out)
 static void write_input(const char *path, const uint8_t *policy, const uint8_t *bank, const uint8_t *request)
 {
     uint8_t input[INPUT_BYTES];
-    must("write_stored", volankizo_write_stored(policy, VOLANKIZO_POLICY_BYTES, bank, BANK_BYTES, input, STORED_BYTES));
+    must("write_stored",
+         volankizo_write_stored(policy, VOLANKIZO_LONGEST_POLICY_BYTES, bank, BANK_BYTES, input, STORED_BYTES));
     must("write_request", volankizo_write_request(request, VOLANKIZO_REQUEST_BYTES, input + STORED_BYTES,
                                                   VOLANKIZO_REQUEST_FORM_BYTES));
     FILE *file = fopen(path, "wb");
@@ -146,10 +150,12 @@ static void write_input(const char *path, const uint8_t *policy, const uint8_t *
 
 int main(int argc, char **argv)
 {
-    uint8_t policy[VOLANKIZO_POLICY_BYTES], bank[BANK_BYTES], request[VOLANKIZO_REQUEST_BYTES];
+    uint8_t policy[VOLANKIZO_LONGEST_POLICY_BYTES], once[VOLANKIZO_LONGEST_POLICY_BYTES];
+    uint8_t bank[BANK_BYTES], request[VOLANKIZO_REQUEST_BYTES];
     uint8_t decision[VOLANKIZO_DECISION_BYTES], list[LIST_BYTES], boundary[VOLANKIZO_BOUNDARY_BYTES];
 
-    put_policy(policy);
+    put_policy(policy, VOLANKIZO_ROUNDS_APART);
+    put_policy(once, VOLANKIZO_ROUNDS_ONCE);
     put_request(request);
     /* In any order: trusting puts the bank in the order of the ids, and refuses what may not serve. */
     uint8_t *next = put_model(bank, 2, 1, 8000, 50, 1, 1000000, 2000000);
@@ -168,6 +174,11 @@ int main(int argc, char **argv)
 
     must("what_would_win", volankizo_what_would_win(policy, sizeof policy, request, sizeof request, bank, sizeof bank, 1,
                                                     boundary, sizeof boundary));
+    print_levers(boundary);
+    /* The same under a policy that adds what input and output cost before it rounds up. */
+    must("what_would_win", volankizo_what_would_win(once, sizeof once, request, sizeof request, bank, sizeof bank, 1, boundary,
+                                                    sizeof boundary));
+    printf("with the cost rounded up once, in place of input and output apart:\n");
     print_levers(boundary);
 
     if (argc > 1)

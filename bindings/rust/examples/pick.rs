@@ -6,8 +6,8 @@ use std::error::Error;
 use std::path::Path;
 use std::process::exit;
 use volankizo::{
-    what_would_win, write_request, write_stored, Bank, CandidateVerdict, KernelInput, KernelModel, PolicySnapshot,
-    ALL_PROVIDERS,
+    what_would_win, write_request, write_stored, Bank, CandidateVerdict, Counterfactual, KernelInput, KernelModel,
+    PolicySnapshot, Rounding, ALL_PROVIDERS,
 };
 
 const POLICY: PolicySnapshot = PolicySnapshot {
@@ -17,6 +17,7 @@ const POLICY: PolicySnapshot = PolicySnapshot {
     minimum_confidence_bps: 2_000,
     risk_penalty_multiplier_bps: 10_000,
     latency_penalty_microunits_per_ms: 10,
+    rounding: Rounding::Apart,
 };
 
 const FIRST: KernelModel = KernelModel {
@@ -89,15 +90,10 @@ fn pick() -> Result<(), Box<dyn Error>> {
         println!("model {} at place {}: {}", entry.model_id, entry.model_index, sentence(entry.verdict));
     }
 
-    let answer = what_would_win(&POLICY, &bank, REQUEST, 1)?;
-    println!("model 1 would win by {} of its levers alone ({} passes)", answer.levers.len(), answer.passes);
-    for lever in answer.levers {
-        print!("lever {} at {} instead of {}", lever.lever.number(), lever.boundary, lever.current);
-        match lever.cost_at_boundary_microunits {
-            Some(cost) => println!(", cost {cost}"),
-            None => println!(),
-        }
-    }
+    show(&what_would_win(&POLICY, &bank, REQUEST, 1)?);
+    // The same under a policy that adds what input and output cost before it rounds up.
+    println!("with the cost rounded up once, in place of input and output apart:");
+    show(&what_would_win(&PolicySnapshot { rounding: Rounding::Once, ..POLICY }, &bank, REQUEST, 1)?);
 
     if let Some(path) = std::env::args_os().nth(1) {
         let mut input = write_stored(&POLICY, &bank)?;
@@ -106,6 +102,18 @@ fn pick() -> Result<(), Box<dyn Error>> {
         println!("wrote {} bytes for unit", input.len());
     }
     Ok(())
+}
+
+fn show(answer: &Counterfactual) {
+    let (id, levers, passes) = (answer.model_id, answer.levers.len(), answer.passes);
+    println!("model {id} would win by {levers} of its levers alone ({passes} passes)");
+    for lever in &answer.levers {
+        print!("lever {} at {} instead of {}", lever.lever.number(), lever.boundary, lever.current);
+        match lever.cost_at_boundary_microunits {
+            Some(cost) => println!(", cost {cost}"),
+            None => println!(),
+        }
+    }
 }
 
 fn sentence(verdict: CandidateVerdict) -> String {

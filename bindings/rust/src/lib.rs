@@ -5,7 +5,7 @@
 //! which the first one found comes back.
 //!
 //! ```
-//! use volankizo::{Bank, KernelInput, KernelModel, PolicySnapshot, ALL_PROVIDERS};
+//! use volankizo::{Bank, KernelInput, KernelModel, PolicySnapshot, Rounding, ALL_PROVIDERS};
 //!
 //! let policy = PolicySnapshot {
 //!     policy_epoch: 7,
@@ -14,6 +14,7 @@
 //!     minimum_confidence_bps: 2_000,
 //!     risk_penalty_multiplier_bps: 10_000,
 //!     latency_penalty_microunits_per_ms: 10,
+//!     rounding: Rounding::Apart,
 //! };
 //! let mut bank = Bank::from_models(&[KernelModel {
 //!     model_id: 2,
@@ -69,8 +70,8 @@ pub use calls::{check_request, decision_margin, next_eligible, what_would_win};
 pub use decision::{DecisionTrace, KernelAction, KernelDecision, KernelReason, RejectionHistogram};
 pub use printed::{ask_text, ask_words, unit_text};
 pub use records::{
-    KernelInput, KernelModel, PolicySnapshot, ALL_PROVIDERS, ALL_REGIONS, MAX_BPS, MAX_CATALOG_MODELS, MAX_PROVIDER_ID,
-    MAX_RISK_PENALTY_MULTIPLIER_BPS, MAX_STORED_MODELS,
+    KernelInput, KernelModel, PolicySnapshot, Rounding, ALL_PROVIDERS, ALL_REGIONS, MAX_BPS, MAX_CATALOG_MODELS,
+    MAX_PROVIDER_ID, MAX_RISK_PENALTY_MULTIPLIER_BPS, MAX_STORED_MODELS,
 };
 pub use refusal::Refusal;
 pub use stored::{read_request, read_stored, read_stored_into, write_request, write_stored};

@@ -1,5 +1,6 @@
-//! What is decided on: models, requests, and a policy's six numbers, with their packed bytes.
-use crate::layout::{Fields, Packed, POLICY_BYTES, RECORD_BYTES, REQUEST_BYTES};
+//! What is decided on: models, requests, and policies, with their packed bytes.
+use crate::layout::{broken, Fields, Packed, LONGEST_POLICY_BYTES, POLICY_BYTES, RECORD_BYTES, REQUEST_BYTES};
+use crate::refusal::Refusal;
 
 /// A mask that lets every provider in.
 pub const ALL_PROVIDERS: u64 = u64::MAX;
@@ -58,7 +59,18 @@ pub struct KernelInput {
     pub required_region_mask: u64,
 }
 
-/// The six numbers of a policy. The models stand beside it, in a bank.
+/// How a cost is rounded up to whole microunits: tokens times price, by the million tokens, both ways.
+#[repr(u8)]
+#[derive(Clone, Copy, Debug, Default, PartialEq, Eq, Hash)]
+pub enum Rounding {
+    /// Input and output each by itself, before they are added, as the Rust that was ported does.
+    #[default]
+    Apart = 0,
+    /// Their sum, once.
+    Once = 1,
+}
+
+/// The six numbers of a policy, and how it rounds. The models stand beside it, in a bank.
 #[derive(Clone, Copy, Debug, PartialEq, Eq)]
 pub struct PolicySnapshot {
     pub policy_epoch: u64,
@@ -69,6 +81,8 @@ pub struct PolicySnapshot {
     pub minimum_confidence_bps: u16,
     pub risk_penalty_multiplier_bps: u16,
     pub latency_penalty_microunits_per_ms: u64,
+    /// Not in the Rust that was ported, which rounds apart.
+    pub rounding: Rounding,
 }
 
 impl KernelModel {
@@ -145,8 +159,22 @@ impl KernelInput {
     }
 }
 
+impl Rounding {
+    fn numbered(number: u8) -> Option<Self> {
+        match number {
+            0 => Some(Rounding::Apart),
+            1 => Some(Rounding::Once),
+            _ => None,
+        }
+    }
+
+    pub const fn number(self) -> u8 {
+        self as u8
+    }
+}
+
 impl PolicySnapshot {
-    pub fn to_bytes(&self) -> [u8; POLICY_BYTES] {
+    pub fn to_bytes(&self) -> [u8; LONGEST_POLICY_BYTES] {
         Packed::new()
             .and(self.policy_epoch.to_le_bytes())
             .and(self.catalog_epoch.to_le_bytes())
@@ -154,15 +182,29 @@ impl PolicySnapshot {
             .and(self.minimum_confidence_bps.to_le_bytes())
             .and(self.risk_penalty_multiplier_bps.to_le_bytes())
             .and(self.latency_penalty_microunits_per_ms.to_le_bytes())
+            .and([self.rounding.number()])
             .whole()
     }
 
-    /// Any 30 bytes are a policy.
-    pub fn from_bytes(policy: &[u8; POLICY_BYTES]) -> Self {
-        PolicySnapshot::taken(&mut Fields(policy))
+    /// Any 30 bytes are a policy that rounds apart, and any 31 one that rounds as the last of them says, where that is 0 or 1. Refusals, as of a
+    /// call that is lent them: 22, 23.
+    pub fn from_bytes(policy: &[u8]) -> Result<Self, Refusal> {
+        let rounding = match policy.len() {
+            POLICY_BYTES => Rounding::Apart,
+            LONGEST_POLICY_BYTES => Rounding::numbered(policy[POLICY_BYTES]).ok_or(Refusal::UnknownRounding)?,
+            _ => return Err(Refusal::WrongLength),
+        };
+        Ok(PolicySnapshot { rounding, ..PolicySnapshot::numbers(&mut Fields(policy)) })
     }
 
+    /// What the 31 bytes tell in which the library hands a policy back.
     pub(crate) fn taken(fields: &mut Fields) -> Self {
+        let numbers = PolicySnapshot::numbers(fields);
+        let rounding = Rounding::numbered(fields.u8()).unwrap_or_else(|| broken("a rounding that has no name"));
+        PolicySnapshot { rounding, ..numbers }
+    }
+
+    fn numbers(fields: &mut Fields) -> Self {
         PolicySnapshot {
             policy_epoch: fields.u64(),
             catalog_epoch: fields.u64(),
@@ -170,6 +212,7 @@ impl PolicySnapshot {
             minimum_confidence_bps: fields.u16(),
             risk_penalty_multiplier_bps: fields.u16(),
             latency_penalty_microunits_per_ms: fields.u64(),
+            rounding: Rounding::Apart,
         }
     }
 }

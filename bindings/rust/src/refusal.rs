@@ -46,6 +46,8 @@ pub enum Refusal {
     WrongTag,
     /// 22: a length that the field, the policy or the request doesn't have.
     WrongLength,
+    /// 23: a policy that rounds neither apart (0) nor once (1); in a form, a field of tag 4 whose body isn't 1.
+    UnknownRounding,
 }
 
 impl Refusal {
@@ -77,6 +79,7 @@ impl Refusal {
             20 => Refusal::CutShort,
             21 => Refusal::WrongTag,
             22 => Refusal::WrongLength,
+            23 => Refusal::UnknownRounding,
             _ => return None,
         }))
     }
@@ -109,6 +112,7 @@ impl Refusal {
             Refusal::CutShort => 20,
             Refusal::WrongTag => 21,
             Refusal::WrongLength => 22,
+            Refusal::UnknownRounding => 23,
         }
     }
 }
@@ -141,6 +145,7 @@ impl Display for Refusal {
             Refusal::CutShort => write!(f, "the form ends inside a field"),
             Refusal::WrongTag => write!(f, "a field or a byte of the form isn't due, or is missing"),
             Refusal::WrongLength => write!(f, "a length is not that of its field"),
+            Refusal::UnknownRounding => write!(f, "the policy rounds in a way that has no name"),
         }
     }
 }

@@ -1,6 +1,6 @@
 //! Any bytes into every call: it comes back, writes its answer and nothing else, and where it refuses nothing at all.
 mod common;
-use common::{Source, POLICY, REQUEST};
+use common::{Source, ONCE, POLICY, REQUEST};
 use volankizo::layout::*;
 use volankizo::{ffi, *};
 
@@ -48,19 +48,37 @@ fn any_request(source: &mut Source) -> Vec<u8> {
     request.to_vec()
 }
 
+/// Of 30 bytes or 31, the last of which is mostly 0 or 1.
 fn any_policy(source: &mut Source) -> Vec<u8> {
     if source.below(2) == 0 {
-        return near(source, POLICY_BYTES);
+        let length = [POLICY_BYTES, LONGEST_POLICY_BYTES][source.below(2)];
+        let mut policy = near(source, length);
+        if let Some(rounding) = policy.get_mut(POLICY_BYTES) {
+            *rounding = [0, 1, 1, 2, 255][source.below(5)];
+        }
+        return policy;
     }
-    let mut policy = POLICY.to_bytes();
+    let mut policy = either(source).to_bytes();
     policy[source.below(POLICY_BYTES)] = source.number() as u8;
-    policy.to_vec()
+    let length = if policy[POLICY_BYTES] == 0 && source.below(2) == 0 { POLICY_BYTES } else { LONGEST_POLICY_BYTES };
+    policy[..length].to_vec()
+}
+
+/// The example's policy, rounding either way.
+fn either(source: &mut Source) -> PolicySnapshot {
+    [POLICY, ONCE][source.below(2)]
+}
+
+/// How many bytes the stored form takes of a policy in any bytes.
+fn stored_need(policy: &[u8], bank: &[u8]) -> usize {
+    let once = policy.get(POLICY_BYTES) == Some(&Rounding::Once.number());
+    stored_form_bytes(bank.len()) + if once { ROUNDING_FIELD_BYTES } else { 0 }
 }
 
 /// A form, cut, lengthened or with a byte changed, or any bytes.
 fn any_form(source: &mut Source) -> Vec<u8> {
     let bank = any_bank(source);
-    let stored = write_stored(&POLICY, &bank).unwrap_or_default();
+    let stored = write_stored(&either(source), &bank).unwrap_or_default();
     let request = write_request(REQUEST).unwrap();
     let mut form = match source.below(4) {
         0 => stored,
@@ -114,7 +132,7 @@ fn the_calls_as_they_are() {
             ask(source, NEXT_BYTES, |out| ffi::next_eligible(&entries, id.into(), out)),
             ask(source, BOUNDARY_BYTES, |out| ffi::what_would_win(p, q, b, id, out)),
             ask(source, BOUNDARY_BYTES, |out| ffi::decision_margin(p, q, b, out)),
-            ask(source, stored_form_bytes(b.len()), |out| ffi::write_stored(p, b, out)),
+            ask(source, stored_need(p, b), |out| ffi::write_stored(p, b, out)),
             ask(source, REQUEST_FORM_BYTES, |out| ffi::write_request(q, out)),
             ask(source, REQUEST_BYTES, |out| ffi::read_request(form, out)),
             ask(source, UNCOUNTED_BYTES, |out| ffi::explain(p, q, b, &mut [0; 6 * EXPLANATION_BYTES], out)),
@@ -131,8 +149,10 @@ fn the_calls_as_they_are() {
 fn the_safe_calls() {
     for seed in 0..ROUNDS {
         let source = &mut Source(seed);
-        let policy = PolicySnapshot::from_bytes(&source.bytes(POLICY_BYTES).try_into().unwrap());
-        let policy = if source.below(2) == 0 { policy } else { POLICY };
+        let policy = PolicySnapshot::from_bytes(&source.bytes(POLICY_BYTES)).unwrap();
+        let policy = if source.below(2) == 0 { policy } else { either(source) };
+        let rounding = [Rounding::Apart, Rounding::Once][source.below(2)];
+        let policy = PolicySnapshot { rounding, ..policy };
         let request = KernelInput::from_bytes(&source.bytes(REQUEST_BYTES).try_into().unwrap());
         let request = if source.below(2) == 0 { request } else { REQUEST };
         let bank = any_bank(source);
@@ -194,7 +214,7 @@ fn trust_only_orders() {
         let mut ordered: Vec<_> = before.chunks(RECORD_BYTES).collect();
         ordered.sort_by_key(|record| record.first_chunk().map(|id| u32::from_le_bytes(*id)));
         match told {
-            Err(1 | 2 | 16 | 17 | 22) => assert_eq!(bank, before),
+            Err(1 | 2 | 16 | 17 | 22 | 23) => assert_eq!(bank, before),
             _ => assert_eq!(bank, ordered.concat(), "{told:?}"),
         }
     }

@@ -1,9 +1,9 @@
 //! Stored form, request form and texts: round trips, and the worked example's bytes and lines.
 mod common;
-use common::{example_bank, many, Source, FIRST, POLICY, REQUEST, SECOND, UNIT_INPUT};
+use common::{example_bank, many, Source, FIRST, ONCE, POLICY, REQUEST, SECOND, UNIT_INPUT};
 use volankizo::{
     ask_text, ask_words, read_request, read_stored, read_stored_into, unit_text, write_request, write_stored, Bank,
-    KernelInput, KernelModel, PolicySnapshot, MAX_STORED_MODELS,
+    KernelInput, KernelModel, PolicySnapshot, Rounding, MAX_STORED_MODELS,
 };
 
 const LINES: &str = "\
@@ -24,6 +24,10 @@ Latency: 100 ms today; it must fall to at most 89 ms.
 Price: 100 percent today; it must fall by at least 11.3334 percent, to 88.6666 percent; the request then costs 798 microunits.
 ";
 
+/// The same with tag 4, as `examples/inputs` has it, and what is printed for it.
+const ONCE_INPUT: &[u8] = include_bytes!("../../../examples/inputs/once.bin");
+const ONCE_LINES: &str = include_str!("../../../examples/inputs/once.txt");
+
 #[test]
 fn the_example_in_bytes() {
     let form = write_stored(&POLICY, &example_bank()).unwrap();
@@ -37,13 +41,16 @@ fn the_example_in_bytes() {
 fn what_was_written_is_read_and_written_again() {
     let mut source = Source(5);
     for models in [0, 1, 2, 3, 17, 900, MAX_STORED_MODELS] {
-        let policy = PolicySnapshot::from_bytes(&source.bytes(30).try_into().unwrap());
+        let numbers = PolicySnapshot::from_bytes(&source.bytes(30)).unwrap();
         let bank = Bank::from_bytes(source.bytes(47 * models));
-        let form = write_stored(&policy, &bank).unwrap();
-        assert_eq!(form.len(), 36 + bank.len());
-        let (read, models) = read_stored(&form).unwrap();
-        assert_eq!((read, &models), (policy, &bank));
-        assert_eq!(write_stored(&read, &models), Ok(form));
+        for (rounding, more) in [(Rounding::Apart, 36), (Rounding::Once, 40)] {
+            let policy = PolicySnapshot { rounding, ..numbers };
+            let form = write_stored(&policy, &bank).unwrap();
+            assert_eq!(form.len(), more + bank.len());
+            let (read, models) = read_stored(&form).unwrap();
+            assert_eq!((read, &models), (policy, &bank));
+            assert_eq!(write_stored(&read, &models), Ok(form));
+        }
     }
     for _ in 0..100 {
         let input = KernelInput::from_bytes(&source.bytes(70).try_into().unwrap());
@@ -61,6 +68,23 @@ fn reading_leaves_the_rest_of_the_buffer() {
     assert!(buffer[94..].iter().all(|byte| *byte == 0xaa));
     let empty = write_stored(&POLICY, &[]).unwrap();
     assert_eq!(read_stored_into(&empty, &mut []), Ok((POLICY, 0)));
+    let empty = write_stored(&ONCE, &[]).unwrap();
+    assert_eq!(read_stored_into(&empty, &mut []), Ok((ONCE, 0)));
+}
+
+#[test]
+fn the_example_rounding_once() {
+    let form = write_stored(&ONCE, &example_bank()).unwrap();
+    assert_eq!(form, [&UNIT_INPUT[..130], &[4, 1, 0, 1]].concat());
+    assert_eq!(read_stored(&form), Ok((ONCE, example_bank())));
+    let input = [&form[..], &UNIT_INPUT[130..]].concat();
+    assert_eq!(input, ONCE_INPUT);
+    assert_eq!(unit_text(&input).unwrap(), ONCE_LINES);
+    let lines = "decision 42 2 2 2 1 300 6200 1 5200 2 2 7 3\nlever 3 1000000 443888 799\npasses 26\n";
+    assert_eq!(ask_text(&input, 1).unwrap(), lines);
+    let words = "Price: 100 percent today; it must fall by at least 55.6112 percent, to 44.3888 percent; \
+                 the request then costs 799 microunits.\n";
+    assert_eq!(ask_words(&input, 1).unwrap(), words);
 }
 
 #[test]

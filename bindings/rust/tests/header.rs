@@ -1,7 +1,7 @@
 //! That this crate and `include/volankizo.h` speak of the same functions and the same sizes.
 use std::collections::{BTreeMap, BTreeSet};
 use volankizo::layout::*;
-use volankizo::MAX_STORED_MODELS;
+use volankizo::{Rounding, MAX_STORED_MODELS};
 
 const HEADER: &str = include_str!("../../../include/volankizo.h");
 const DECLARED: &str = include_str!("../src/ffi.rs");
@@ -38,6 +38,7 @@ fn the_same_sizes() {
     let ours = [
         ("RECORD_BYTES", RECORD_BYTES),
         ("POLICY_BYTES", POLICY_BYTES),
+        ("LONGEST_POLICY_BYTES", LONGEST_POLICY_BYTES),
         ("REQUEST_BYTES", REQUEST_BYTES),
         ("DECISION_BYTES", DECISION_BYTES),
         ("UNCOUNTED_BYTES", UNCOUNTED_BYTES),
@@ -48,12 +49,15 @@ fn the_same_sizes() {
         ("EXPLANATION_BYTES", EXPLANATION_BYTES),
         ("BOUNDARY_BYTES", BOUNDARY_BYTES),
         ("FIELD_HEADER_BYTES", FIELD_HEADER_BYTES),
+        ("ROUNDING_FIELD_BYTES", ROUNDING_FIELD_BYTES),
         ("STORED_POLICY_BYTES", STORED_POLICY_BYTES),
         ("REQUEST_FORM_BYTES", REQUEST_FORM_BYTES),
         ("UNIT_TEXT_BYTES", UNIT_TEXT_BYTES),
         ("ASK_TEXT_BYTES", ASK_TEXT_BYTES),
         ("ASK_WORDS_BYTES", ASK_WORDS_BYTES),
         ("MAX_STORED_MODELS", MAX_STORED_MODELS),
+        ("ROUNDS_APART", Rounding::Apart.number().into()),
+        ("ROUNDS_ONCE", Rounding::Once.number().into()),
     ];
     assert_eq!(BTreeMap::from(ours), numbers());
     assert_eq!((stored_form_bytes(0), stored_form_bytes(94)), (36, 130));

@@ -4,7 +4,7 @@ use common::{example_bank, Source, FIRST, POLICY, REQUEST};
 use volankizo::layout::{BOUNDARY_BYTES, EXPLANATION_BYTES};
 use volankizo::{
     ffi, next_eligible, Bank, CandidateExplanation, CandidateVerdict, GateKind, KernelInput, KernelModel, KernelReason,
-    PolicySnapshot, RejectionHistogram,
+    PolicySnapshot, RejectionHistogram, Rounding,
 };
 
 /// Every gate can be failed alone.
@@ -152,7 +152,13 @@ fn bytes_and_values_are_one_to_one() {
         assert_eq!(KernelModel::from_bytes(&record).to_bytes(), record);
         let request: [u8; 70] = source.bytes(70).try_into().unwrap();
         assert_eq!(KernelInput::from_bytes(&request).to_bytes(), request);
-        let policy: [u8; 30] = source.bytes(30).try_into().unwrap();
-        assert_eq!(PolicySnapshot::from_bytes(&policy).to_bytes(), policy);
+        let numbers = source.bytes(30);
+        for rounding in [Rounding::Apart, Rounding::Once] {
+            let policy = [&numbers[..], &[rounding.number()]].concat();
+            let read = PolicySnapshot::from_bytes(&policy).unwrap();
+            assert_eq!((&read.to_bytes()[..], read.rounding), (&policy[..], rounding));
+        }
+        let read = PolicySnapshot::from_bytes(&numbers).unwrap();
+        assert_eq!((&read.to_bytes()[..30], read.rounding), (&numbers[..], Rounding::Apart));
     }
 }

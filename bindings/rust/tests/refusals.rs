@@ -1,10 +1,13 @@
 //! Each refusal through the safe calls, with its values, and that a refused call leaves what it was lent.
 mod common;
-use common::{example_bank, many, FIRST, POLICY, REQUEST, SECOND, UNIT_INPUT};
-use volankizo::layout::{EXPLANATION_BYTES, NEXT_BYTES, REQUEST_FORM_BYTES};
+use common::{example_bank, many, FIRST, ONCE, POLICY, REQUEST, SECOND, UNIT_INPUT};
+use volankizo::layout::{
+    BOUNDARY_BYTES, DECISION_BYTES, EXPLANATION_BYTES, NEXT_BYTES, REQUEST_FORM_BYTES, UNCOUNTED_BYTES,
+};
 use volankizo::{
-    check_request, decision_margin, ffi, find, models, read_request, read_stored, read_stored_into, record_at,
-    unit_text, what_would_win, write_request, write_stored, Bank, KernelInput, KernelModel, PolicySnapshot, Refusal,
+    ask_text, ask_words, check_request, decision_margin, ffi, find, models, read_request, read_stored,
+    read_stored_into, record_at, unit_text, what_would_win, write_request, write_stored, Bank, KernelInput,
+    KernelModel, PolicySnapshot, Refusal, Rounding,
 };
 
 fn two(first: KernelModel, second: KernelModel) -> Bank {
@@ -73,6 +76,10 @@ fn number_4_leaves_the_list_and_the_buffer() {
     let mut buffer = vec![0xaa; 93];
     assert_eq!(read_stored_into(&form, &mut buffer), Err(Refusal::NoRoom));
     assert!(buffer.iter().all(|byte| *byte == 0xaa));
+    let mut buffer = [0xaa; 133];
+    assert_eq!(ffi::write_stored(&ONCE.to_bytes(), &bank, &mut buffer), 4, "four bytes more, rounding once");
+    assert_eq!(buffer, [0xaa; 133]);
+    assert_eq!(ffi::write_stored(&POLICY.to_bytes(), &bank, &mut buffer), 0);
     assert_eq!(Refusal::NoRoom.number(), 4);
 }
 
@@ -206,6 +213,101 @@ fn numbers_20_to_22_of_forms() {
     assert_eq!(all.map(Refusal::number), [20, 21, 22]);
 }
 
+/// The stored form of the example's bank, with these bytes after it.
+fn after_the_bank(bytes: &[u8]) -> Vec<u8> {
+    [&UNIT_INPUT[..130], bytes].concat()
+}
+
+#[test]
+fn numbers_20_to_23_of_the_field_that_says_how_to_round() {
+    let twice = [4, 1, 0, 1, 4, 1, 0, 1];
+    let faults: [(&[u8], Refusal); 12] = [
+        (&[4], Refusal::CutShort),
+        (&[4, 1], Refusal::CutShort),
+        (&[5], Refusal::WrongTag),
+        (&[4, 1, 0], Refusal::CutShort),
+        (&[4, 2, 0, 1], Refusal::WrongLength),
+        (&[4, 0, 0], Refusal::WrongLength),
+        (&[4, 2, 0, 0, 0], Refusal::WrongLength),
+        (&[4, 1, 0, 0], Refusal::UnknownRounding),
+        (&[4, 1, 0, 2], Refusal::UnknownRounding),
+        (&[4, 1, 0, 0, 0], Refusal::UnknownRounding),
+        (&[4, 1, 0, 1, 0], Refusal::WrongTag),
+        (&twice, Refusal::WrongTag),
+    ];
+    for (bytes, refusal) in faults {
+        let form = after_the_bank(bytes);
+        let mut buffer = vec![0xaa; 200];
+        assert_eq!(read_stored_into(&form, &mut buffer), Err(refusal), "{bytes:?}");
+        assert!(buffer.iter().all(|byte| *byte == 0xaa));
+        assert_eq!(read_stored_into(&form, &mut []), Err(refusal), "before 4");
+    }
+    assert_eq!(read_stored(&after_the_bank(&[4, 1, 0, 1])), Ok((ONCE, example_bank())));
+    let before = [&UNIT_INPUT[..33], &[4, 1, 0, 1], &UNIT_INPUT[33..130]].concat();
+    assert_eq!(read_stored(&before), Err(Refusal::WrongTag));
+    let long = [&[1, 31, 0][..], &ONCE.to_bytes(), &UNIT_INPUT[33..130]].concat();
+    assert_eq!(read_stored(&long), Err(Refusal::WrongLength));
+    assert_eq!(Refusal::UnknownRounding.number(), 23);
+}
+
+#[test]
+fn the_programs_refuse_that_field_before_anything_else() {
+    let request = &UNIT_INPUT[130..];
+    let faults: [(&[u8], &[u8], &str); 8] = [
+        (&[4, 1, 0, 0], request, "refused 23\n"),
+        (&[4, 0, 0], request, "refused 22\n"),
+        (&[4], &[], "refused 20\n"),
+        (&[9], &[], "refused 20\n"),
+        (&[4, 1, 0], &[], "refused 20\n"),
+        (&[4, 1, 0, 1], &[], "refused 21\n"),
+        (&[4, 1, 0, 0], &[], "refused 23\n"),
+        (request, &[4, 1, 0, 1], "refused 21\n"),
+    ];
+    for (bytes, then, text) in faults {
+        let input = after_the_bank(&[bytes, then].concat());
+        let said = [unit_text(&input), ask_text(&input, 1), ask_words(&input, 1)].map(Result::unwrap);
+        assert_eq!(said, [text; 3], "{bytes:?}");
+    }
+}
+
+/// 22 of the policy, 22 of the request, 23, then 1: of every call that is lent a policy.
+#[test]
+fn numbers_22_and_23_of_a_policy() {
+    let numbers = &POLICY.to_bytes()[..30];
+    let said = |last: &[u8]| PolicySnapshot::from_bytes(&[numbers, last].concat()).map(|policy| policy.rounding);
+    assert_eq!((said(&[]), said(&[0]), said(&[1])), (Ok(Rounding::Apart), Ok(Rounding::Apart), Ok(Rounding::Once)));
+    assert_eq!([said(&[2]), said(&[255])], [Err(Refusal::UnknownRounding); 2]);
+    assert_eq!([said(&[1, 0]), said(&[2, 2])], [Err(Refusal::WrongLength); 2]);
+    assert_eq!(PolicySnapshot::from_bytes(&numbers[1..]), Err(Refusal::WrongLength));
+
+    let (request, bank) = (REQUEST.to_bytes(), &example_bank()[1..]);
+    for (last, request, word) in [
+        (&[2][..], &request[..], 23),
+        (&[255], &request, 23),
+        (&[2], &request[1..], 22),
+        (&[2, 0], &request, 22),
+        (&[0], &request, 1),
+        (&[1], &request, 1),
+    ] {
+        let policy = [numbers, last].concat();
+        let words = [
+            ffi::prescribe(&policy, request, bank, &mut [0; DECISION_BYTES]),
+            ffi::prescribe_checked(&policy, request, bank, &mut [0; DECISION_BYTES]),
+            ffi::utility_for_model(&policy, request, bank, 1, &mut []),
+            ffi::explain(&policy, request, bank, &mut [], &mut [0; UNCOUNTED_BYTES]),
+            ffi::what_would_win(&policy, request, bank, 1, &mut [0; BOUNDARY_BYTES]),
+            ffi::decision_margin(&policy, request, bank, &mut []),
+        ];
+        assert_eq!(words, [word; 6], "{last:?}");
+        let mut lent = bank.to_vec();
+        let words =
+            [ffi::validate(&policy, bank), ffi::trust(&policy, &mut lent), ffi::write_stored(&policy, bank, &mut [])];
+        // These have no request.
+        let owed = if last == [2] { 23 } else { word };
+        assert_eq!((words, &lent[..]), ([owed; 3], bank), "{last:?}");
+    }
+}
+
 /// What the safe calls never ask: a buffer that is too short, a request of another length.
 #[test]
 fn words_of_the_calls_on_bytes() {
@@ -220,7 +322,7 @@ fn words_of_the_calls_on_bytes() {
 #[test]
 fn a_word_that_tells_nothing() {
     for number in 0..=255 {
-        let known = matches!(number, 1..=8 | 10..=18 | 20..=22);
+        let known = matches!(number, 1..=8 | 10..=18 | 20..=23);
         match Refusal::read(number) {
             Some(Ok(())) => assert_eq!(number, 0),
             Some(Err(refusal)) => assert!(known && u64::from(refusal.number()) == number),
@@ -239,6 +341,8 @@ fn a_refusal_says_what_is_wrong() {
     assert_eq!(said, "refused 12: model 1 is listed twice");
     let said = check_request(KernelInput { confidence_bps: 10_002, ..REQUEST }).unwrap_err().to_string();
     assert_eq!(said, "refused 3: the request's confidence_bps is 10002");
+    let said = read_stored(&after_the_bank(&[4, 1, 0, 0])).unwrap_err().to_string();
+    assert_eq!(said, "refused 23: the policy rounds in a way that has no name");
 }
 
 #[test]

@@ -48,7 +48,7 @@ fn noted<T>(call: impl FnOnce() -> T) -> (T, usize) {
 
 #[test]
 fn a_bank_or_form_that_is_too_long() {
-    let policy = PolicySnapshot::from_bytes(&[0; POLICY_BYTES]);
+    let policy = PolicySnapshot::from_bytes(&[0; POLICY_BYTES]).unwrap();
     let request = KernelInput::from_bytes(&[0; REQUEST_BYTES]);
     for records in [MAX_CATALOG_MODELS + 1, 10 * MAX_CATALOG_MODELS] {
         let bank = vec![0; records * RECORD_BYTES];

@@ -1,6 +1,6 @@
-//! The worked rows, (A) to (K), through the safe calls.
+//! The worked rows, (A) to (K), through the safe calls; those that a policy which rounds once tells otherwise, and those that it doesn't.
 mod common;
-use common::{example_bank, many, FIRST, POLICY, REQUEST, SECOND};
+use common::{example_bank, many, FIRST, ONCE, POLICY, REQUEST, SECOND};
 use volankizo::{
     decision_margin, find, models, record_at, what_would_win, Bank, CandidateVerdict, GateKind, KernelAction,
     KernelDecision, KernelInput, KernelModel, KernelReason, Lever, Refusal, RejectionHistogram, Requirement,
@@ -153,6 +153,79 @@ fn g_each_way_is_rounded_up_apart() {
     let request = KernelInput { input_tokens: 1, output_tokens: 1, ..REQUEST };
     let decision = POLICY.prescribe(&Bank::from_models(&[model]), request).unwrap();
     assert_eq!(decision.estimated_cost_microunits, 2);
+}
+
+/// One token each way at price 1, which costs 2 apart and 1 once.
+#[test]
+fn g_once() {
+    let model = KernelModel {
+        input_cost_microunits_per_million_tokens: 1,
+        output_cost_microunits_per_million_tokens: 1,
+        ..FIRST
+    };
+    let bank = Bank::from_models(&[model]);
+    let request = KernelInput { input_tokens: 1, output_tokens: 1, budget_limit_microunits: 1, ..REQUEST };
+    assert_eq!(reason_of(&bank, request), KernelReason::BudgetConstraint);
+    let verdict = POLICY.explain(&bank, request).unwrap().candidates[0].verdict;
+    assert_eq!(verdict, CandidateVerdict::OverBudget { cost_microunits: 2, limit_microunits: 1 });
+
+    let (decision, trace) = ONCE.prescribe_with_trace(&bank, request).unwrap();
+    assert_eq!((decision.estimated_cost_microunits, decision.expected_utility_microunits), (1, 6_999));
+    assert_eq!(trace.rejections, RejectionHistogram::default());
+    assert_eq!(ONCE.prescribe_checked(&bank, request), Ok(decision));
+    assert_eq!(ONCE.utility_for_model(&bank, request, 1), Ok(6_999));
+    let explanation = ONCE.explain(&bank, request).unwrap();
+    let CandidateVerdict::Eligible(terms) = explanation.candidates[0].verdict else { panic!("{explanation:?}") };
+    assert_eq!((explanation.decision, terms.cost_microunits, terms.utility), (decision, 1, 6_999));
+}
+
+/// A sum at a whole microunit, one part below it and one above; both ways of rounding where a cost is held.
+#[test]
+fn g_sums_at_the_edges() {
+    let costs = |input: (u32, u64), output: (u32, u64)| {
+        let model = KernelModel {
+            input_cost_microunits_per_million_tokens: input.1,
+            output_cost_microunits_per_million_tokens: output.1,
+            ..FIRST
+        };
+        let request =
+            KernelInput { input_tokens: input.0, output_tokens: output.0, budget_limit_microunits: 0, ..REQUEST };
+        [POLICY, ONCE].map(|policy| {
+            match policy.explain(&Bank::from_models(&[model]), request).unwrap().candidates[0].verdict {
+                CandidateVerdict::OverBudget { cost_microunits, .. } => cost_microunits,
+                _ => 0,
+            }
+        })
+    };
+    assert_eq!(costs((1, 599_999), (1, 400_000)), [2, 1]);
+    assert_eq!(costs((1, 600_000), (1, 400_000)), [2, 1]);
+    assert_eq!(costs((1, 600_000), (1, 400_001)), [2, 2]);
+    assert_eq!(costs((1, 1_000_001), (0, 1)), [2, 2]);
+    assert_eq!(costs((0, u64::MAX), (0, u64::MAX)), [0, 0]);
+    assert_eq!(costs((1_000_000, u64::MAX - 1), (2, 1)), [u64::MAX; 2]);
+    assert_eq!(costs((u32::MAX, u64::MAX), (u32::MAX, u64::MAX)), [u64::MAX; 2]);
+}
+
+/// Every product of the example is whole, so that its decision stays; its prices are then scaled to parts.
+#[test]
+fn a_to_c_once() {
+    let bank = example_bank();
+    assert_eq!(ONCE.prescribe(&bank, REQUEST), Ok(chosen()));
+    let price = |boundary, cost| Requirement {
+        cost_at_boundary_microunits: Some(cost),
+        ..plain(Lever::PriceScalePpm, 1_000_000, boundary)
+    };
+    let answer = what_would_win(&ONCE, &bank, REQUEST, 1).unwrap();
+    assert_eq!((answer.levers, answer.decision, answer.passes), (vec![price(443_888, 799)], chosen(), 26));
+    let margin = decision_margin(&ONCE, &bank, REQUEST).unwrap();
+    let levers = [
+        plain(Lever::QualityBps, 8_000, 7_000),
+        plain(Lever::P95LatencyMs, 50, 150),
+        price(4_333_333, 1_300),
+        plain(Lever::RiskCeilingBps, 8_000, 1_000),
+    ];
+    assert_eq!((&margin.levers[..], margin.decision, margin.passes), (&levers[..], chosen(), 95));
+    assert_eq!((ONCE.validate(&bank), ONCE.trust(&mut bank.clone())), (Ok(()), Ok(())));
 }
 
 #[test]

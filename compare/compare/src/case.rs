@@ -41,8 +41,6 @@ pub enum Formed {
 /// The bytes and numbers of one input. Lengths may be wrong: they are compared too.
 #[derive(Clone, Debug)]
 pub struct Case {
-    /// By which the library owes its answer.
-    pub rules: Rules,
     pub policy: Vec<u8>,
     pub request: Vec<u8>,
     pub bank: Vec<u8>,
@@ -60,6 +58,7 @@ pub struct Case {
 /// A case as one call sees it: with its own form, and the room of its own buffers in bytes.
 #[derive(Clone)]
 pub struct Ask<'a> {
+    /// By which the library owes its answer.
     pub rules: Rules,
     pub policy: &'a [u8],
     pub request: &'a [u8],
@@ -77,10 +76,10 @@ pub struct Ask<'a> {
 }
 
 impl Case {
-    /// The case for a call whose form has these tags, before the rooms are known.
+    /// The case for a call whose form has these tags, before its rules and the rooms are known.
     pub fn ask(&self, tags: &[u8]) -> Ask<'_> {
         Ask {
-            rules: self.rules,
+            rules: Rules::RUST,
             policy: &self.policy,
             request: &self.request,
             bank: &self.bank,
@@ -114,9 +113,6 @@ impl Ask<'_> {
 /// The case whole, in hexadecimal, so that it can be asked again anywhere.
 impl fmt::Display for Case {
     fn fmt(&self, f: &mut fmt::Formatter<'_>) -> fmt::Result {
-        if self.rules != Rules::RUST {
-            writeln!(f, "by      {:?}", self.rules)?;
-        }
         writeln!(f, "policy  ({} bytes) {}", self.policy.len(), hex(&self.policy))?;
         writeln!(f, "request ({} bytes) {}", self.request.len(), hex(&self.request))?;
         writeln!(f, "bank    ({} bytes) {}", self.bank.len(), hex(&self.bank))?;

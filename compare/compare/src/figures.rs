@@ -2,11 +2,12 @@
 use crate::calls::{Answer, Call, ASK, CALLS, EXPLAIN, MARGIN, NEXT, PRESCRIBE, TRUST, UNIT, WIN, WORDS};
 use crate::case::Case;
 use crate::second::boundaries::passes_and_levers;
-use crate::second::bytes::{models_of, policy_of, request_of, RECORD_BYTES};
-use crate::second::deciding::{explain, Explained, Question, Verdict};
+use crate::second::bytes::{models_of, policy_of, request_of, LONG_POLICY_BYTES, RECORD_BYTES};
+use crate::second::deciding::{decide, explain, Explained, Question, Verdict};
 use crate::second::explanation::{EXPLANATION_BYTES, NO_MORE};
 use crate::second::price::Terms;
 use crate::second::printed::LENGTH_BYTES;
+use crate::second::rules::{Rounding, Rules};
 use oracle::kernel::KernelModel;
 use std::cmp::Reverse;
 use std::collections::{BTreeMap, BTreeSet};
@@ -112,8 +113,9 @@ impl Figures {
 
     fn note_records(&mut self, case: &Case) {
         let (policy, request, models) = (policy_of(&case.policy), request_of(&case.request), models_of(&case.bank));
-        let question = Question { rules: case.rules, policy, request, models };
+        let question = Question { policy, request, models };
         let explained = explain(&question);
+        self.note_rounding(case, &question, &explained);
         if let Some(key) = deciding_key(&question.models, &explained) {
             self.see(format!("first before second by {key}"));
         }
@@ -121,6 +123,24 @@ impl Figures {
             if explained.iter().filter_map(|it| terms(&it.verdict)).any(|t| holds(&t)) {
                 self.see(format!("some {name}"));
             }
+        }
+    }
+
+    /// Whether it is rounded once, and whether rounding apart would tell another cost, or choose another model.
+    fn note_rounding(&mut self, case: &Case, question: &Question, explained: &[Explained]) {
+        if question.policy.rounding == Rounding::Apart {
+            if case.policy.len() == LONG_POLICY_BYTES {
+                self.see(ROUNDINGS[0].into());
+            }
+            return;
+        }
+        self.see(ROUNDINGS[1].into());
+        let apart = Question { policy: question.policy.by(Rules::RUST), ..question.clone() };
+        if explain(&apart) != explained {
+            self.see(ROUNDINGS[2].into());
+        }
+        if decide(&apart).0.model_id != decide(question).0.model_id {
+            self.see(ROUNDINGS[3].into());
         }
     }
 
@@ -151,6 +171,14 @@ pub const COUNTS: [&str; 9] =
 
 /// The keys of the ranking, in their order.
 pub const KEYS: [&str; 5] = ["1 utility", "2 cost", "3 quality", "4 id", "5 place"];
+
+/// How a policy rounds, where it says so, and what comes of it.
+pub const ROUNDINGS: [&str; 4] = [
+    "rounded apart, in so many words",
+    "rounded once",
+    "rounded once, and apart some cost differs",
+    "rounded once, and apart the choice differs",
+];
 
 pub type Extreme = (&'static str, fn(&Terms) -> bool);
 

@@ -1,6 +1,7 @@
 //! The forms that are made of a case, and what can be wrong with one.
 use crate::case::Case;
-use crate::second::forms::{MODELS, POLICY, REQUEST};
+use crate::second::bytes::{LONG_POLICY_BYTES, POLICY_BYTES};
+use crate::second::forms::{MODELS, POLICY, REQUEST, ROUNDING};
 
 /// One thing wrong with a form. A field is meant by its place; where there is none, nothing happens.
 #[derive(Clone, Copy, Debug, PartialEq, Eq)]
@@ -13,9 +14,13 @@ pub enum Damage {
     Says(usize, u16),
     /// The field's body has so many bytes more or fewer, and its length says so.
     Body(usize, i32),
+    /// Every byte of the field's body is this.
+    Filled(usize, u8),
     Without(usize),
     Twice(usize),
     Swapped(usize, usize),
+    /// A field that says how to round, with this body, before the one at a place or after the last.
+    Rounding(usize, u8),
     /// A field of its own after the last, empty.
     Added(u8),
     /// The first bytes alone.
@@ -37,7 +42,7 @@ struct Field {
 
 /// The case's parts as a form with these tags, then damaged in this order, but first what is wrong with fields.
 pub fn form_bytes(case: &Case, tags: &[u8], damages: &[Damage]) -> Vec<u8> {
-    let mut fields: Vec<Field> = tags.iter().map(|tag| field(case, *tag)).collect();
+    let mut fields: Vec<Field> = tags.iter().filter_map(|tag| field(case, *tag)).collect();
     damages.iter().for_each(|damage| damage.fields(&mut fields));
     let mut bytes = Vec::new();
     for Field { tag, length, body } in fields {
@@ -50,14 +55,25 @@ pub fn form_bytes(case: &Case, tags: &[u8], damages: &[Damage]) -> Vec<u8> {
 }
 
 /// A body that is too long for its length is there all the same.
-fn field(case: &Case, tag: u8) -> Field {
+fn field(case: &Case, tag: u8) -> Option<Field> {
+    let (numbers, rounding) = parted(&case.policy);
     let body = match tag {
-        POLICY => &case.policy,
-        MODELS => &case.bank,
-        REQUEST => &case.request,
+        POLICY => numbers.to_vec(),
+        MODELS => case.bank.clone(),
+        REQUEST => case.request.clone(),
+        ROUNDING => vec![rounding?],
         _ => unreachable!("no form has such a tag"),
     };
-    Field { tag, length: body.len() as u16, body: body.clone() }
+    Some(Field::of(tag, body))
+}
+
+/// The numbers of a policy, and what its field that says how to round holds: a policy of 31 bytes has one, unless the last of them is 0. A
+/// policy of any other length is taken for numbers alone.
+fn parted(policy: &[u8]) -> (&[u8], Option<u8>) {
+    match policy.len() {
+        LONG_POLICY_BYTES => (&policy[..POLICY_BYTES], Some(policy[POLICY_BYTES]).filter(|rounding| *rounding != 0)),
+        _ => (policy, None),
+    }
 }
 
 impl Damage {
@@ -66,12 +82,15 @@ impl Damage {
         | Damage::Length(at, _)
         | Damage::Says(at, _)
         | Damage::Body(at, _)
+        | Damage::Filled(at, _)
         | Damage::Without(at)
         | Damage::Twice(at)
         | Damage::Swapped(at, _)) = self
         else {
-            if let Damage::Added(tag) = self {
-                fields.push(Field { tag, length: 0, body: Vec::new() });
+            match self {
+                Damage::Added(tag) => fields.push(Field::of(tag, Vec::new())),
+                Damage::Rounding(at, body) => fields.insert(at.min(fields.len()), Field::of(ROUNDING, vec![body])),
+                _ => {}
             }
             return;
         };
@@ -83,6 +102,7 @@ impl Damage {
             Damage::Length(_, more) => field.length = (i32::from(field.length) + more) as u16,
             Damage::Says(_, length) => field.length = length,
             Damage::Body(_, more) => field.stretch(more),
+            Damage::Filled(_, byte) => field.body.fill(byte),
             Damage::Without(_) => drop(fields.remove(at)),
             Damage::Twice(_) => fields.insert(at, fields[at].clone()),
             Damage::Swapped(_, other) if other < fields.len() => fields.swap(at, other),
@@ -102,6 +122,10 @@ impl Damage {
 }
 
 impl Field {
+    fn of(tag: u8, body: Vec<u8>) -> Self {
+        Field { tag, length: body.len() as u16, body }
+    }
+
     fn stretch(&mut self, more: i32) {
         let length = (self.body.len() as i64 + i64::from(more)).max(0) as usize;
         self.body.resize(length, 0);

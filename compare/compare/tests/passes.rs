@@ -2,10 +2,10 @@
 //! as they are allocated, and held against the passes that the second reading counts.
 use compare::calls::{MARGIN, WIN};
 use compare::case::Case;
-use compare::generate::{Asked, DRAWS, SPACES};
+use compare::generate::{Asked, Draw, DRAWS, SPACES};
 use compare::second::bytes::{models_of, policy_of, request_of, RECORD_BYTES};
 use compare::second::deciding::Question;
-use compare::second::refusals::{bank, field_lengths};
+use compare::second::refusals::{bank, policy_and_request};
 use compare::second::rules::Rules;
 use compare::second::search;
 use oracle::counterfactual;
@@ -49,13 +49,13 @@ fn copies_of<T>(models: usize, act: impl FnOnce() -> T) -> (T, u64) {
 
 /// The searches of a case, where it is sound and small enough: how many there were.
 fn check(case: &Case) -> u64 {
-    let sound = field_lengths(&case.policy, &case.request).is_ok() && bank(&case.bank).is_ok();
+    let sound = policy_and_request(&case.policy, &case.request).is_ok() && bank(&case.bank).is_ok();
     if !sound || case.bank.is_empty() || case.bank.len() > 900 * RECORD_BYTES {
         return 0;
     }
     let (policy, request, models) = (policy_of(&case.policy), request_of(&case.request), models_of(&case.bank));
     let snapshot = policy.with(models.clone());
-    let question = Question { rules: Rules::RUST, policy, request, models };
+    let question = Question { policy: policy.by(Rules::RUST), request, models };
     let records = question.models.len();
     let (won, copies) = copies_of(records, || counterfactual::what_would_win(&snapshot, request, case.id));
     let counted = search::what_would_win(&question, case.id);
@@ -77,7 +77,7 @@ fn the_passes_are_the_rusts_own() {
         (space.each)(&mut |case| asked += check(&case));
     }
     for draws in DRAWS.iter().filter(|draws| searches(&draws.asked)) {
-        asked += (0..20_000).map(|number| check(&(draws.case)(11, number))).sum::<u64>();
+        asked += (0..20_000).map(|number| check(&(draws.case)(Draw::of(11, number)))).sum::<u64>();
     }
     assert!(asked > 40_000, "{asked} searches");
 }

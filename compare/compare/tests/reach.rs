@@ -2,8 +2,8 @@
 //! each lever, each line and each sentence.
 use compare::calls::{ASK, CALLS, EXPLAIN, MARGIN, NEXT, TRUST, UNIT, WIN, WORDS, WRITE_STORED};
 use compare::case::Case;
-use compare::figures::{Figures, COUNTS, EXTREMES, KEYS, LEVERS, SEARCHED};
-use compare::generate::{Asked, DRAWS, SPACES};
+use compare::figures::{Figures, COUNTS, EXTREMES, KEYS, LEVERS, ROUNDINGS, SEARCHED};
+use compare::generate::{Asked, Draw, DRAWS, SPACES};
 
 fn note(figures: &mut Figures, asked: &Asked, case: &Case) {
     for (at, call) in CALLS.iter().enumerate().filter(|(at, _)| asked.asks(*at, case)) {
@@ -14,20 +14,20 @@ fn note(figures: &mut Figures, asked: &Asked, case: &Case) {
 /// The refusals of each call, in the order of `CALLS`. 2 takes a bank of 65,536 records and 18 one of 1,395: the small spaces alone reach
 /// them, and are asked for them apart.
 const REFUSED: [&[u8]; 19] = [
-    &[1, 4, 22],
-    &[1, 3, 4, 22],
-    &[1, 4, 7, 22],
+    &[1, 4, 22, 23],
+    &[1, 3, 4, 22, 23],
+    &[1, 4, 7, 22, 23],
     &[1, 4],
     &[3, 22],
-    &[1, 4, 22],
+    &[1, 4, 22, 23],
     &[4],
-    &[1, 10, 11, 12, 13, 14, 15, 22],
-    &[1, 10, 11, 12, 13, 14, 15, 16, 17, 22],
-    &[1, 4, 5, 22],
-    &[1, 4, 6, 22],
+    &[1, 10, 11, 12, 13, 14, 15, 22, 23],
+    &[1, 10, 11, 12, 13, 14, 15, 16, 17, 22, 23],
+    &[1, 4, 5, 22, 23],
+    &[1, 4, 6, 22, 23],
     &[1, 4, 8],
-    &[1, 4, 22],
-    &[4, 20, 21, 22],
+    &[1, 4, 22, 23],
+    &[4, 20, 21, 22, 23],
     &[4, 22],
     &[4, 20, 21, 22],
     &[4],
@@ -36,7 +36,7 @@ const REFUSED: [&[u8]; 19] = [
 ];
 
 /// What each call prints in place of an answer, from the third on by the desk alone; 19 takes 901 models, and random cases may miss it.
-const PRINTED_REFUSED: [u8; 10] = [3, 10, 11, 12, 13, 14, 15, 20, 21, 22];
+const PRINTED_REFUSED: [u8; 11] = [3, 10, 11, 12, 13, 14, 15, 20, 21, 22, 23];
 
 /// The sentences, as far as they are told apart.
 const SENTENCES: [&str; 9] = [
@@ -66,7 +66,8 @@ fn assert_reached(figures: &Figures) {
     let counts = COUNTS.iter().map(|count| format!("some rejected for {count}"));
     let keys = KEYS.map(|key| format!("first before second by {key}"));
     let extremes = EXTREMES.iter().map(|(name, _)| format!("some {name}"));
-    for what in reasons.chain(counts).chain(keys).chain(extremes) {
+    let roundings = ROUNDINGS.map(String::from);
+    for what in reasons.chain(counts).chain(keys).chain(extremes).chain(roundings) {
         assert!(figures.seen.get(&what).is_some_and(|times| *times > 10), "{what}");
     }
     let gates = (1..=8).map(|gate| (EXPLAIN, format!("some with verdict 1, gate {gate}")));
@@ -118,7 +119,7 @@ fn random_cases_reach_everything() {
     let mut figures = Figures::default();
     for draws in &DRAWS {
         (0..20_000 * draws.share.max(20) / 100)
-            .for_each(|number| note(&mut figures, &draws.asked, &(draws.case)(7, number)));
+            .for_each(|number| note(&mut figures, &draws.asked, &(draws.case)(Draw::of(7, number))));
     }
     assert_reached(&figures);
 }

@@ -11,6 +11,7 @@ use types.Share.{arr-parts}
 use Rattle.rules.specs.{Refused.toldOutcome, Numbers.toldDecision, Numbers.Decision, Batch.batchOf, Batch.batchRow, declared.records.KernelInput.KernelInput}
 use Rattle.rules.specs.{declared.records.PolicySnapshot.PolicySnapshot, declared.decision.KernelDecision.KernelDecision, declared.refusal.Outcome.Outcome}
 use Rattle.rules.proofs.records.KernelInput as Q
+use denote.Struct.Laws as LL
 use Rattle.rules.proofs.records.PolicySnapshot as P
 use Rattle.rules.proofs.records.PolicySnapshot.Laws as P′
 use Rattle.rules.proofs.decision.KernelDecision as S
@@ -47,7 +48,7 @@ pub record Handed : Type 0 where
   pub q₁ : Share
   pub q₂ : Share
   pub pl : PolicySnapshot
-  pub gp : Is P.the-row pl (P′.lowered pl ∷ [])
+  pub gp : Is P.the-row pl (LL.val P.the-type P′.the-laws pl ∷ [])
   pub s : RefT (List ℕ)
   pub b₁ : ℕ
   pub o₁ : ℕ
@@ -62,7 +63,7 @@ abbrev pub Arg : Type 0
 Arg = PolicySnapshot × (RefT (List ℕ) × (RefT (List KernelInput) × (RefT (List KernelDecision) × Unit {0})))
 
 -- it by lifetimes, shares and arguments
-abbrev pub handed : Lfts 3 → Share × (Share × (Share × Unit {0})) → (a : Arg) → Is P.the-row (a .0) (P′.lowered (a .0) ∷ []) → Handed
+abbrev pub handed : Lfts 3 → Share × (Share × (Share × Unit {0})) → (a : Arg) → Is P.the-row (a .0) (LL.val P.the-type P′.the-laws (a .0) ∷ []) → Handed
 handed κs qs a gp = record {
   κ₀ = κs .0;
   κ₁ = κs .1 .0;
@@ -105,7 +106,7 @@ module _ (F : Handed) where
 
   -- the machine values passed
   abbrev pub vp : Val
-  vp = P′.lowered pl
+  vp = LL.val P.the-type P′.the-laws pl
 
   abbrev pub v : Val
   v = sliceVal (s .ptr) (length (s .now))

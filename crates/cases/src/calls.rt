@@ -12,6 +12,7 @@ use packing::input_bytes;
 use packing::policy_bytes;
 use rules::Refusal;
 use rules::RequestRead;
+use rules::Rounding;
 use rules::StoredRead;
 use rules::Written;
 use stored::read_request;
@@ -21,6 +22,9 @@ use stored::write_stored;
 
 // A policy or a request that isn't the example's.
 const ANOTHER: usize = 2_000_000;
+
+// The bytes of a policy's numbers; how it rounds stands after them.
+const POLICY: usize = 30;
 
 // A refusal as one number, beyond every size.
 fn refused(refusal: Refusal) -> usize {
@@ -46,8 +50,8 @@ fn if_example(bytes: &[u8], start: usize, end: usize, size: usize) -> usize
     ANOTHER
 }
 
-// Told as the bank's size.
-pub(crate) fn read_into(form: &[u8], out: &mut [u8], room: usize) -> usize
+// Told as the bank's size, where the policy is the example's and rounds so: 0 apart, 1 once.
+pub(crate) fn read_into(form: &[u8], rounding: u8, out: &mut [u8], room: usize) -> usize
     requires { ⌜ room ≤ length (now out) ⌝ }
 {
     let read = read_stored(form, &mut out[0..room]);
@@ -55,7 +59,10 @@ pub(crate) fn read_into(form: &[u8], out: &mut [u8], room: usize) -> usize
         StoredRead::Refused(refusal) => refused(refusal),
         StoredRead::Read(policy, size) => {
             let body = policy_bytes(policy);
-            if_example(&body, 3, BANK, size)
+            if body[POLICY] != rounding {
+                return ANOTHER;
+            }
+            if_example(&body[0..POLICY], 3, BANK, size)
         }
     }
 }
@@ -72,11 +79,11 @@ pub(crate) fn request_read(form: &[u8]) -> usize {
     }
 }
 
-// The example's policy with a bank.
-pub(crate) fn write_into(bank: &[u8], out: &mut [u8], room: usize) -> usize
+// The example's policy, rounding so, with a bank.
+pub(crate) fn write_into(rounding: Rounding, bank: &[u8], out: &mut [u8], room: usize) -> usize
     requires { ⌜ room ≤ length (now out) ⌝ }
 {
-    written(write_stored(policy(), bank, &mut out[0..room]))
+    written(write_stored(policy(rounding), bank, &mut out[0..room]))
 }
 
 // The example's request.

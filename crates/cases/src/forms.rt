@@ -1,27 +1,35 @@
 // The groups of the stored form and the request form, with how many numbers each has: 1 to 4 are the kinds of damage, with an even number to
-// the stored form and with an odd one to the request form. What a number of another group stands for is said by the function that
-// `case_of` hands it to.
+// the stored form and with an odd one to the request form; 11 to 15 are the kinds of damage to the field that says how a policy rounds, through every
+// call that reads it. What a number of another group stands for is said by the function that `case_of` hands it to.
 use crate::banks::LENGTHS;
 use crate::damage::numbers_of;
 use crate::reading::damaged_request;
 use crate::reading::damaged_stored;
 use crate::reading::long;
+use crate::rounded::rounded;
+use crate::rounded::rounded_numbers;
 use crate::tally::Seen;
 use crate::tally::Tally;
 use crate::tally::noted;
+use crate::writing::ONCE_ROOMS;
 use crate::writing::REQUEST_ROOMS;
 use crate::writing::SIZE_ROOMS;
 use crate::writing::SIZES;
 use crate::writing::STORED_ROOMS;
 use crate::writing::VAST;
 use crate::writing::VAST_ROOMS;
+use crate::writing::once_room;
 use crate::writing::request_room;
 use crate::writing::size;
 use crate::writing::stored_room;
 use crate::writing::vast;
 use std::num::wrapping_add_u64;
+use std::num::wrapping_sub_u64;
 
-const GROUPS: u64 = 9;
+const GROUPS: u64 = 15;
+
+// The groups before the kinds of damage to the field that says how a policy rounds.
+const BEFORE_ROUNDED: u64 = 10;
 
 // The groups of what is printed come before these.
 const PRINTED: u64 = 10;
@@ -34,7 +42,9 @@ fn size_of(group: u64) -> usize {
         6 => STORED_ROOMS,
         7 => REQUEST_ROOMS,
         8 => SIZES * SIZE_ROOMS,
-        _ => VAST * VAST_ROOMS,
+        9 => VAST * VAST_ROOMS,
+        10 => ONCE_ROOMS,
+        _ => rounded_numbers(wrapping_sub_u64(group, BEFORE_ROUNDED)),
     }
 }
 
@@ -54,7 +64,9 @@ fn case_of(group: u64, number: usize) -> Seen {
         6 => stored_room(number),
         7 => request_room(number),
         8 => size(number),
-        _ => vast(number),
+        9 => vast(number),
+        10 => once_room(number),
+        _ => rounded(wrapping_sub_u64(group, BEFORE_ROUNDED), number),
     }
 }
 

@@ -1,9 +1,10 @@
 // The worked example in numbers.
 use rules::KernelInput;
 use rules::PolicySnapshot;
+use rules::Rounding;
 
-// Its policy.
-pub(crate) fn policy() -> PolicySnapshot {
+// Its policy, with how it rounds.
+pub(crate) fn policy(rounding: Rounding) -> PolicySnapshot {
     PolicySnapshot {
         policy_epoch: 7,
         catalog_epoch: 3,
@@ -11,6 +12,7 @@ pub(crate) fn policy() -> PolicySnapshot {
         minimum_confidence_bps: 2_000,
         risk_penalty_multiplier_bps: 10_000,
         latency_penalty_microunits_per_ms: 10,
+        rounding,
     }
 }
 

@@ -12,20 +12,26 @@ use crate::example::MODELS;
 use crate::example::example;
 use crate::marks::MARK;
 use crate::marks::settled;
+use crate::once::AFTER_ROUNDING;
+use crate::once::ONCE_END;
+use crate::once::put_once;
 use crate::tally::Seen;
 use crate::tally::judged;
+use rules::Rounding;
 
-// Rooms up to two bytes more than each form has.
+// Rooms up to two bytes more than each form has, also that of a policy that rounds once.
 pub(crate) const STORED_ROOMS: usize = 133;
 
 pub(crate) const REQUEST_ROOMS: usize = 76;
+
+pub(crate) const ONCE_ROOMS: usize = 137;
 
 // Writes a bank that stands in a form, as it does in every input, into the first bytes of a buffer that is all marks.
 fn writes(form: &[u8], size: usize, out: &mut [u8], room: usize) -> bool
     requires { ⌜ (36 + size ≤ length (now form)) × (size ≤ 65612) × (room ≤ length (now out)) ⌝ }
 {
     let end = MODELS + size;
-    let told = write_into(&form[MODELS..end], out, room);
+    let told = write_into(Rounding::Apart, &form[MODELS..end], out, room);
     settled(told, size_answer(size), out, &form[0..end], room)
 }
 
@@ -44,6 +50,16 @@ pub(crate) fn request_room(number: usize) -> Seen {
     let mut out = [MARK; REQUEST_ROOMS];
     let told = write_request_into(&mut out, room);
     judged(settled(told, 0, &out, &input[AFTER_BANK..END], room))
+}
+
+// Group 10: the example's bank with a policy that rounds once, whose form has four bytes more, into each room.
+pub(crate) fn once_room(number: usize) -> Seen {
+    let room = number % ONCE_ROOMS;
+    let mut input = [0u8; ONCE_END];
+    put_once(&mut input);
+    let mut out = [MARK; ONCE_ROOMS];
+    let told = write_into(Rounding::Once, &input[MODELS..AFTER_BANK], &mut out, room);
+    judged(settled(told, 0, &out, &input[0..AFTER_ROUNDING], room))
 }
 
 // Each length of a bank that group 8 tries, with four rooms.
@@ -142,6 +158,6 @@ pub(crate) fn vast(number: usize) -> Seen {
     let room = SPACE * (number % VAST_ROOMS);
     let bank = vast_bank();
     let mut out = [MARK; SPACE];
-    let told = write_into(&bank[0..size], &mut out, room);
+    let told = write_into(Rounding::Apart, &bank[0..size], &mut out, room);
     judged(settled(told, size_answer(size), &out, b"", room))
 }

@@ -2,7 +2,7 @@
 use Rattle.rules.proofs.Kit.{ℕ, arith, _≡_, ap, ap₂, _∙_, Bool, true, false, List, none, some, eq-eqb, ne-eqb}
 use Rattle.rules.specs.{Choice.below, Records.listedOf, Records.modelAt, Refused.fault, Numbers.Decision, Numbers.Entry, Listing.firstListed, Listing.placeOf}
 use Rattle.rules.specs.{Decide.stoppedBy, Decide.decisionOf, Levers.Question, Levers.wins, Levers.selects, Levers.entry, Levers.noSearch, Levers.boundaryOf}
-use Rattle.rules.specs.{Levers.boundaryRefused, Win.winLevers, Win.ifOn, Win.winSearch, Win.winFor, Win.winIn, Win.winIfListed}
+use Rattle.rules.specs.{Levers.boundaryRefused, Win.winLevers, Win.ifOn, Win.winSearch, Win.winFor, Win.winBy, Win.winIn, Price.costUnder, Win.winIfListed}
 use Rattle.rules.specs.{declared.records.KernelInput.KernelInput, declared.records.PolicySnapshot.PolicySnapshot, declared.decision.KernelReason.KernelReason}
 use Rattle.kernel_ranking.specs.declared.state.Top.{Top}
 use Rattle.kernel_decide.specs.{Stop.toldStop, declared.stop.Stop.Stop, declared.stop.Stop.the-variants.Open, declared.stop.Stop.the-variants.By}
@@ -50,17 +50,17 @@ module _ (a : Question) (d : Decision) {s : Stop} (told : toldStop s ≡ stopped
 
 module _ (p : PolicySnapshot) (q : KernelInput) (bank : List ℕ) (id : ℕ) where
   pub win-nowhere : placeOf (firstListed id (listedOf bank)) ≡ none → winIn p q (listedOf bank) id ≡ boundaryRefused (fault 5)
-  unfolding winIn
-  win-nowhere e = ap (winIfListed p q (listedOf bank) id) (found-nothing bank id e)
+  unfolding winBy
+  win-nowhere e = ap (winIfListed (costUnder p) p q (listedOf bank) id) (found-nothing bank id e)
 
   -- the question about the record at a place
   abbrev pub asking : ℕ → Question
-  asking place = record { policy = p; request = q; list = listedOf bank; id = id; model = modelAt bank place }
+  asking place = record { costs = costUnder p; policy = p; request = q; list = listedOf bank; id = id; model = modelAt bank place }
 
   pub win-listed : (place : ℕ) → placeOf (firstListed id (listedOf bank)) ≡ some place
       → winIn p q (listedOf bank) id ≡ winFor (asking place) (decisionOf p q (listedOf bank))
-  unfolding winIn
-  win-listed place f = ap (winIfListed p q (listedOf bank) id) (found-at bank id place f .0)
+  unfolding winBy
+  win-listed place f = ap (winIfListed (costUnder p) p q (listedOf bank) id) (found-at bank id place f .0)
 
   -- what is sought for what is asked there
   pub sought-at : {k : Asked} {t : LeverRooms} (place : ℕ) (top : Top) → k ≡ askedFrom p q bank id place top

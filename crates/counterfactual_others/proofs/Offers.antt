@@ -2,8 +2,10 @@
 -- place by what they offer. For any bank, also one with repeated ids. Assumes nothing.
 use Rattle.rules.proofs.Kit.{ℕ, zero, suc, _+_, _*_, _<_, arith, _≡_, refl, sym, ap, _∙_, List, [], _∷_, _++_, map, length, take, drop, set, length-set}
 use Rattle.rules.proofs.Kit.{length-take-le, take-at, set-at, drop-append-add}
-use Rattle.rules.specs.{Records.Listed, Records.listed, Records.listedFrom, Records.listedOf, Records.modelAt, Records.recordsIn, Verdict.judged}
-use Rattle.rules.specs.{Decide.stoppedBy, Decide.decisionOf, Levers.selects, declared.records.KernelModel.KernelModel, declared.records.KernelInput.KernelInput}
+use Rattle.rules.specs.{Records.Listed, Records.listed, Records.listedFrom, Records.listedOf, Records.modelAt, Records.recordsIn, Price.costUnder}
+use Rattle.rules.specs.{Verdict.judged}
+use Rattle.rules.specs.{Decide.stoppedBy, Decide.decisionOf, Levers.selects, declared.records.KernelModel.KernelModel}
+use Rattle.rules.specs.{declared.records.KernelInput.KernelInput}
 use Rattle.rules.specs.{declared.records.PolicySnapshot.PolicySnapshot, Order.Each}
 use Rattle.rules.proofs.Stopped.{unstopped}
 use Rattle.pricing.specs.Pricing.{pricingOf}
@@ -100,7 +102,7 @@ module _ (bank : List ℕ) (place : ℕ) (inside : place < recordsIn (length ban
           ≡ decisionOfScan p q (stateAfter (stateOf (judged p q (withoutPlace place (listedOf bank)))) place m (verdictIn (pricingOf p q) q m))
           (recordsIn (length bank))
       decides-by-others =
-          unstopped p q (set (listedOf bank) place (listed place m)) free
+          unstopped (costUnder p) p q (set (listedOf bank) place (listed place m)) free
           ∙ sym (state-decides p q (set (listedOf bank) place (listed place m)))
           ∙ rw (length-set (listedOf bank) place (listed place m), length-listed bank, with-model m, without-model)
           (rw (state-apart p q earlier (listed place m) later later-elsewhere)

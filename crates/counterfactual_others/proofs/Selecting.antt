@@ -1,7 +1,8 @@
 -- What a decision selects and costs, by the first of its ranking. Assumes nothing.
 use Rattle.rules.proofs.Kit.{ℕ, _+_, _^_, arith, _≡_, refl, sym, ap, _∙_, Bool, true, false, cond, not, _&&_, List, [], _∷_, lt-ltb, ltb, eqb, ℤ, pos, negsuc}
 use Rattle.rules.proofs.Kit.{length}
-use Rattle.rules.specs.{Choice.equal, Records.Listed, Numbers.Decision, Verdict.Judged, Verdict.judged, Rank.Candidate, Rank.ranking, Decide.stoppedBy}
+use Rattle.rules.specs.{Choice.equal, Records.Listed, Numbers.Decision, Price.costUnder, Verdict.Judged, Verdict.judged, Rank.Candidate, Rank.ranking}
+use Rattle.rules.specs.{Decide.stoppedBy}
 use Rattle.rules.specs.{Decide.rejection, Decide.executedAs, Decide.chosen, Decide.byRanking, Decide.byVerdicts, Decide.decisionOf, Count.countsOf}
 use Rattle.rules.specs.{Count.dominantOf, Levers.selects, declared.records.KernelInput.KernelInput, declared.records.PolicySnapshot.PolicySnapshot}
 use Rattle.rules.proofs.Stopped.{unstopped}
@@ -47,9 +48,10 @@ module _ (p : PolicySnapshot) (q : KernelInput) where
     -- A DECISION SELECTS THE ID OF THE BEST, where there is one
     pub best-selects : (id : ℕ) → selects id (decisionOf p q ls) ≡ hasId id (bestOf p q ls)
     unfolding bestOf byVerdicts
-    best-selects id = ap (selects id) (unstopped p q ls free) ∙ ranked-selects id (judged p q ls) (ranking (judged p q ls)) (ranking-holds p q ls .0)
+    best-selects id = ap (selects id) (unstopped (costUnder p) p q ls free)
+        ∙ ranked-selects id (judged p q ls) (ranking (judged p q ls)) (ranking-holds p q ls .0)
 
     -- AND COSTS WHAT THE BEST COSTS
     pub best-costs : decisionOf p q ls .cost ≡ bestOf p q ls .cost
     unfolding bestOf byVerdicts
-    best-costs = ap (λ (d : Decision). d .cost) (unstopped p q ls free) ∙ ranked-costs (judged p q ls) (ranking (judged p q ls))
+    best-costs = ap (λ (d : Decision). d .cost) (unstopped (costUnder p) p q ls free) ∙ ranked-costs (judged p q ls) (ranking (judged p q ls))

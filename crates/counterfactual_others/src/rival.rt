@@ -10,7 +10,7 @@ use kernel_verdict::Candidate;
 use kernel_verdict::Verdict;
 use kernel_verdict::entered;
 use pricing::Pricing;
-use pricing::cost_apart;
+use pricing::cost_alone;
 use pricing_terms::ZERO_SCORE;
 use pricing_terms::terms_wide;
 use rules::KernelInput;
@@ -29,7 +29,7 @@ pub fn others_best(top: Top, place: u16) -> Candidate
 }
 
 // What a model is told, in plain forms, as in an explanation: the scan's own are compiled into its loop.
-fn verdict_apart(pricing: Pricing, input: KernelInput, model: KernelModel) -> Verdict
+fn verdict_alone(pricing: Pricing, input: KernelInput, model: KernelModel) -> Verdict
     requires { ⌜ Settled pricing ⌝ }
     ensures { λ r. ⌜ r ≡ verdictIn pricing input model ⌝ }
 {
@@ -37,7 +37,8 @@ fn verdict_apart(pricing: Pricing, input: KernelInput, model: KernelModel) -> Ve
     if 0 < gate {
         return Verdict::Rejected(gate);
     }
-    let cost = cost_apart(model, input);
+    let rounding = pricing.rounding;
+    let cost = cost_alone(rounding, model, input);
     if input.budget_limit_microunits < cost {
         return Verdict::OverBudget(cost);
     }
@@ -59,7 +60,7 @@ pub fn best_with(
     requires { ⌜ Settled pricing ⌝ }
     ensures { λ r. ⌜ r ≡ bestWith pricing input rival place model ⌝ }
 {
-    let verdict = verdict_apart(pricing, input, model);
+    let verdict = verdict_alone(pricing, input, model);
     let Verdict::Eligible(terms) = verdict else {
         return rival;
     };

@@ -7,6 +7,7 @@ use mathlib.Core.Option.{some}
 use Rattle.rules.specs.Records.{listedOf, modelAt}
 use Rattle.rules.specs.Refused.{bankFaults}
 use Rattle.rules.specs.Listing.{firstListed, placeOf}
+use Rattle.rules.specs.Price.{costUnder}
 use Rattle.rules.specs.Decide.{stoppedBy}
 use Rattle.rules.specs.Levers.{leverAt, Question}
 use Rattle.rules.specs.declared.records.KernelModel.{KernelModel}
@@ -36,7 +37,7 @@ winsIn k lever v =
 -- The question over a bank's list
 unfoldable pub questionIn : Asked → List ℕ → Question
 questionIn k bank =
-    record { policy = k .policy; request = k .input; list = listedOf bank; id = k .id; model = k .model }
+    record { costs = costUnder (k .policy); policy = k .policy; request = k .input; list = listedOf bank; id = k .id; model = k .model }
 
 -- R1. The place is that of the first listed record with the id, in a bank that isn't refused; the request isn't stopped; the rival is the best of
 -- the others

@@ -3,12 +3,13 @@ use Prim.Native.Nat.{ℕ, _%_, _^_}
 use mathlib.Core.Bool.{Bool}
 use mathlib.Core.List.{List}
 use lib.ListN.{getD}
-use Rattle.rules.specs.Records.{modelOf, inputOf}
+use Rattle.rules.specs.Records.{modelOf, inputOf, roundingOf}
+use Rattle.rules.specs.declared.records.Rounding.{Rounding}
 use Rattle.pricing.specs.declared.Pricing.{Pricing}
 use Rattle.kernel_verdict.specs.declared.Candidate.{Candidate}
 use Rattle.counterfactual_pass.specs.Asked.{winsBy}
 
--- The place and the id of the model that is varied, the best of the others, and what is settled, as thirteen numbers say them
+-- The place and the id of the model that is varied, the best of the others, and what is settled, as fourteen numbers say them
 abbrev pub placeIn : List ℕ → ℕ
 placeIn ns = getD ns 0 0 % 2 ^ 16
 
@@ -25,6 +26,9 @@ rivalIn ns =
       score = getD ns 6 0;
     }
 
+abbrev pub roundingIn : List ℕ → Rounding
+roundingIn ns = roundingOf (getD ns 13 0)
+
 abbrev pub pricingIn : List ℕ → Pricing
 pricingIn ns =
     record {
@@ -33,6 +37,7 @@ pricingIn ns =
       «quality_prefix» = getD ns 9 0;
       «risk_penalty» = record { hi = getD ns 10 0; lo = getD ns 11 0 };
       «latency_pen_per_ms» = getD ns 12 0;
+      rounding = roundingIn ns;
     }
 
 -- Whether the model of some bytes, with a lever at a value, wins

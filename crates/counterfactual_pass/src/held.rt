@@ -5,7 +5,7 @@ ghost use Prim.Native.Nat.{_≤_};
 ghost use Rattle.rules.specs.Records.{modelOf, inputOf};
 ghost use Rattle.pricing.specs.Pricing.{Settled, pricingOf};
 ghost use Rattle.counterfactual_lever.specs.Lever.{widest};
-ghost use Rattle.counterfactual_pass.specs.Held.{placeIn, idIn, rivalIn, pricingIn, winsOn};
+ghost use Rattle.counterfactual_pass.specs.Held.{placeIn, idIn, rivalIn, roundingIn, pricingIn, winsOn};
 use crate::pass::Asked;
 use bank::input_from;
 use bank::model_from;
@@ -19,19 +19,21 @@ use packing::model_bytes;
 use pricing::Pricing;
 use rules::KernelInput;
 use rules::KernelModel;
+use rules::Rounding;
 use rules::Wide;
 use rules::limits::ModelBytes;
 use rules::limits::RequestBytes;
 
 // The place and the id of the model that is varied; the best of the others: id, place, quality, cost, score; what is settled: value,
-// confidence, quality prefix, the risk term's limbs, the latency penalty.
-pub type Held = [u64; 13];
+// confidence, quality prefix, the risk term's limbs, the latency penalty, how a cost is rounded.
+pub type Held = [u64; 14];
 
 // The numbers that say them.
 fn held_numbers(place: u16, id: u32, rival: Candidate, pricing: Pricing) -> Held
     ensures { λ r. ⌜ (placeIn r ≡ place) × (idIn r ≡ id) × (rivalIn r ≡ rival) × (pricingIn r ≡ pricing) ⌝ }
 {
     let risk = pricing.risk_penalty;
+    let rounding = pricing.rounding;
     [
         place as u64,
         id as u64,
@@ -46,6 +48,7 @@ fn held_numbers(place: u16, id: u32, rival: Candidate, pricing: Pricing) -> Held
         risk.hi,
         risk.lo,
         pricing.latency_pen_per_ms,
+        rounding.number() as u64,
     ]
 }
 
@@ -84,6 +87,16 @@ fn rival_in(held: &Held) -> Candidate
     }
 }
 
+// How a cost is rounded.
+fn rounding_held(held: &Held) -> Rounding
+    ensures { λ r. ⌜ r ≡ roundingIn (now (held .entry)) ⌝ }
+{
+    if held[13] == 1 {
+        return Rounding::Once;
+    }
+    Rounding::Apart
+}
+
 // What is settled.
 fn pricing_in(held: &Held) -> Pricing
     ensures { λ r. ⌜ r ≡ pricingIn (now (held .entry)) ⌝ }
@@ -92,12 +105,14 @@ fn pricing_in(held: &Held) -> Pricing
         hi: held[10],
         lo: held[11],
     };
+    let rounding = rounding_held(held);
     Pricing {
         value: held[7],
         confidence_bps: (held[8] % 0x1_0000) as u16,
         quality_prefix: held[9],
         risk_penalty,
         latency_pen_per_ms: held[12],
+        rounding,
     }
 }
 

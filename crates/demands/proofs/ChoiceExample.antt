@@ -2,8 +2,8 @@
 -- places. Assumes nothing.
 use Rattle.rules.proofs.Kit.{ℕ, _≡_, refl, ap, subst, _∙_, List, [], _∷_, _++_, some, pos}
 use Rattle.rules.proofs.{Opened.rules, Example.modelTwo, Example.bank, Example.counts}
-use Rattle.rules.specs.{Choice.below, Choice.lower, Choice.higher, Order.sortedBy, Records.listedOf, Verdict.Judged, Rank.Candidate, Rank.better}
-use Rattle.rules.specs.{Rank.eligibles, Rank.ranking, Count.Weight, Count.weights, Count.heavier, Count.dominantOf, Decide.decisionOf}
+use Rattle.rules.specs.{Choice.below, Choice.lower, Choice.higher, Order.sortedBy, Records.listedOf, Price.costUnder, Verdict.Judged, Rank.Candidate}
+use Rattle.rules.specs.{Rank.better, Rank.eligibles, Rank.ranking, Count.Weight, Count.weights, Count.heavier, Count.dominantOf, Decide.decisionOf}
 use Rattle.demands.specs.{Ranked.InStrictOrder, Ranked.judgedOf, Ranked.DecidedFor, Ranked.LastLargest, Keeping.betterInRust, Keeping.two, Keeping.turn}
 use Rattle.demands.specs.{Keeping.keptInRust, Keeping.firstTwo}
 use Rattle.demands.proofs.{Places.judged-different, Places.ranking-strict, Decision.decided-by-first-two, Keeping.rust-keeps-of-bank}
@@ -30,7 +30,7 @@ unfolding rules
 ranked = refl
 
 decided : DecidedFor (decisionOf p q (listedOf three)) best (twin ∷ one ∷ [])
-decided = decided-by-first-two p q (listedOf three) goes-on best (twin ∷ one ∷ []) ranked
+decided = decided-by-first-two (costUnder p) p q (listedOf three) goes-on best (twin ∷ one ∷ []) ranked
 
 strict : InStrictOrder (best ∷ twin ∷ one ∷ [])
 strict = subst InStrictOrder ranked (ranking-strict js (judged-different p q three))

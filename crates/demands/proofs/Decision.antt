@@ -1,29 +1,31 @@
--- The decision's two are the first two of the ranking, and of a bank they beat all others. Assumes nothing.
+-- The decision's two are the first two of the ranking, by any rule of cost, and of a bank they beat all others. Assumes nothing.
 use Rattle.rules.proofs.Kit.{ℕ, _≡_, refl, _∙_, _⊎_, List, [], _∷_, length}
-use Rattle.rules.specs.{Order.Each, Records.Listed, Verdict.judged, Rank.Candidate, Rank.eligibles, Rank.ranking, Count.countsOf, Count.dominantOf}
-use Rattle.rules.specs.{Decide.stoppedBy, Decide.rejection, Decide.chosen, Decide.byVerdicts, Decide.decisionOf, declared.records.KernelInput.KernelInput}
-use Rattle.rules.specs.{declared.records.PolicySnapshot.PolicySnapshot}
+use Rattle.rules.specs.{Order.Each, Records.Listed, Price.Cost, Verdict.judgedBy, Rank.Candidate, Rank.eligibles, Rank.ranking, Count.countsOf}
+use Rattle.rules.specs.{Count.dominantOf, Decide.stoppedBy, Decide.rejection, Decide.chosen, Decide.byVerdicts, Decide.decisionBy}
+use Rattle.rules.specs.{declared.records.KernelInput.KernelInput, declared.records.PolicySnapshot.PolicySnapshot}
 use Rattle.rules.proofs.Stopped.{unstopped}
 use Rattle.demands.specs.Ranked.{Beats, judgedOf, DecidedFor}
 use Rattle.demands.proofs.Places.{judged-different, first-beats-all, second-beats-others}
 
-module _ (p : PolicySnapshot) (q : KernelInput) (ls : List Listed) (goesOn : stoppedBy p q ≡ 0) where
-  pub chosen-is : (c : Candidate) (rest : List Candidate) → ranking (judged p q ls) ≡ c ∷ rest → decisionOf p q ls ≡ chosen p q (length (judged p q ls)) c rest
+module _ (cost : Cost) (p : PolicySnapshot) (q : KernelInput) (ls : List Listed) (goesOn : stoppedBy p q ≡ 0) where
+  pub chosen-is : (c : Candidate) (rest : List Candidate) → ranking (judgedBy cost p q ls) ≡ c ∷ rest
+      → decisionBy cost p q ls ≡ chosen p q (length (judgedBy cost p q ls)) c rest
   unfolding byVerdicts
-  chosen-is c rest e = unstopped p q ls goesOn ∙ rw e
+  chosen-is c rest e = unstopped cost p q ls goesOn ∙ rw e
 
   -- Demand 2. A request that no limit stops is decided for the first of the ranking, at its place, cost and utility; the counterfactual
   -- is the second, with its utility, 0 and 0 if there is none
-  pub decided-by-first-two : (c : Candidate) (rest : List Candidate) → ranking (judged p q ls) ≡ c ∷ rest → DecidedFor (decisionOf p q ls) c rest
+  pub decided-by-first-two : (c : Candidate) (rest : List Candidate) → ranking (judgedBy cost p q ls) ≡ c ∷ rest → DecidedFor (decisionBy cost p q ls) c rest
   unfolding chosen
   decided-by-first-two c rest e =
       rw (chosen-is c rest e)
       (record { model = refl; place = refl; cost = refl; utility = refl; counterfactual = refl; counterfactualUtility = refl })
 
   -- Demand 2. Where the ranking is empty it is rejected, with the reason of the largest count
-  pub rejected-where-none : ranking (judged p q ls) ≡ [] → decisionOf p q ls ≡ rejection p q (dominantOf (countsOf (judged p q ls))) (length (judged p q ls))
+  pub rejected-where-none : ranking (judgedBy cost p q ls) ≡ []
+      → decisionBy cost p q ls ≡ rejection p q (dominantOf (countsOf (judgedBy cost p q ls))) (length (judgedBy cost p q ls))
   unfolding byVerdicts
-  rejected-where-none e = unstopped p q ls goesOn ∙ rw e
+  rejected-where-none e = unstopped cost p q ls goesOn ∙ rw e
 
 module _ (p : PolicySnapshot) (q : KernelInput) (bank : List ℕ) where
   -- Demand 2. Of a bank, the chosen model is better than every other eligible one

@@ -1,42 +1,42 @@
 -- When a model is eligible: no gate stops it, it is within the budget, and its utility is positive. A model that is nowhere less favourable
--- stays so. Assumes nothing.
+-- stays so, if it costs no more. Assumes nothing.
 use Rattle.rules.proofs.Kit.{ℕ, suc, _≤_, _≡_, refl, Bool, true, false, cond, _&&_, List, [], _∷_, arith, le-ltb, ltb-false, ltb, pos, leZ}
 use Rattle.rules.specs.{Choice.below, Order.Each, Gates.firstOf, Gates.isOff, Gates.isPoor, Gates.isSlow, Gates.isUnable, Gates.isUnknown, Gates.isBarred}
-use Rattle.rules.specs.{Gates.isElsewhere, Gates.isRisky, Gates.gateOf, Gates.detailOf, Price.costOf, Utility.utilityOf, Verdict.rejected, Verdict.overBudget}
-use Rattle.rules.specs.{Verdict.withTerms, Verdict.byUtility, Verdict.verdictOf, declared.records.KernelModel.KernelModel}
+use Rattle.rules.specs.{Gates.isElsewhere, Gates.isRisky, Gates.gateOf, Gates.detailOf, Utility.utilityOf, Verdict.rejected, Verdict.overBudget}
+use Rattle.rules.specs.{Verdict.withTerms, Verdict.byUtility, Verdict.verdictCosting, declared.records.KernelModel.KernelModel}
 use Rattle.rules.specs.{declared.records.KernelInput.KernelInput, declared.records.PolicySnapshot.PolicySnapshot}
-use Rattle.demands.specs.Standing.{Eligible, Favours}
-use Rattle.demands.proofs.{Integers.positive-up, Terms.cost-falls, Terms.utility-rises}
+use Rattle.demands.specs.Standing.{Favours}
+use Rattle.demands.proofs.{Integers.positive-up, Terms.utility-rises}
 
--- ---- the three conditions
+-- ---- the three conditions, at a cost
 
-pub record Passes (p : PolicySnapshot) (q : KernelInput) (m : KernelModel) : Type 0 where
+pub record Passes (p : PolicySnapshot) (q : KernelInput) (m : KernelModel) (cost : ℕ) : Type 0 where
   pub gate : gateOf m q ≡ 0
-  pub budget : costOf m q ≤ q .«budget_limit_microunits»
-  pub utility : leZ (utilityOf p m q) (pos 0) ≡ false
+  pub budget : cost ≤ q .«budget_limit_microunits»
+  pub utility : leZ (utilityOf p m q cost) (pos 0) ≡ false
 
-module _ (p : PolicySnapshot) (q : KernelInput) (m : KernelModel) where
-  pub passes : Eligible p q m → Passes p q m
-  unfolding verdictOf byUtility below
-  passes e = go (ltb 0 (gateOf m q)) (ltb (q .«budget_limit_microunits») (costOf m q)) (leZ (utilityOf p m q) (pos 0)) refl refl refl e
+module _ (p : PolicySnapshot) (q : KernelInput) (m : KernelModel) (cost : ℕ) where
+  pub passes : verdictCosting p q m cost .kind ≡ 4 → Passes p q m cost
+  unfolding verdictCosting byUtility below
+  passes e = go (ltb 0 (gateOf m q)) (ltb (q .«budget_limit_microunits») cost) (leZ (utilityOf p m q cost) (pos 0)) refl refl refl e
     where
-      go : (s t u : Bool) → ltb 0 (gateOf m q) ≡ s → ltb (q .«budget_limit_microunits») (costOf m q) ≡ t → leZ (utilityOf p m q) (pos 0) ≡ u
+      go : (s t u : Bool) → ltb 0 (gateOf m q) ≡ s → ltb (q .«budget_limit_microunits») cost ≡ t → leZ (utilityOf p m q cost) (pos 0) ≡ u
           → cond s (rejected (gateOf m q) (detailOf m q (gateOf m q)))
-          (cond t (overBudget (costOf m q) (q .«budget_limit_microunits»)) (withTerms p q m (cond u 3 4))) .kind ≡ 4 → Passes p q m
+          (cond t (overBudget cost (q .«budget_limit_microunits»)) (withTerms p q m cost (cond u 3 4))) .kind ≡ 4 → Passes p q m cost
       go true t u a b c e = absurd (omega arith)
       go false true u a b c e = absurd (omega arith)
       go false false true a b c e = absurd (omega arith)
       go false false false a b c e =
           record {
             gate = omega (arith, ltb-false 0 (gateOf m q) a);
-            budget = ltb-false (q .«budget_limit_microunits») (costOf m q) b;
+            budget = ltb-false (q .«budget_limit_microunits») cost b;
             utility = c;
           }
 
   -- and then the verdict is 4, with the model's own terms
-  pub told-terms : Passes p q m → verdictOf p q m ≡ withTerms p q m 4
-  unfolding verdictOf byUtility below
-  told-terms h = rw (h .gate, le-ltb (q .«budget_limit_microunits») (costOf m q) (h .budget), h .utility)
+  pub told-terms : Passes p q m cost → verdictCosting p q m cost ≡ withTerms p q m cost 4
+  unfolding verdictCosting byUtility below
+  told-terms h = rw (h .gate, le-ltb (q .«budget_limit_microunits») cost (h .budget), h .utility)
 
 -- ---- the gates
 
@@ -78,11 +78,11 @@ module _ (p : PolicySnapshot) (q : KernelInput) (y x : KernelModel) (f : Favours
         (quality, (latency, (rw (f .capabilities) unable, (rw (f .provider) unknown, (rw (f .provider) barred, (rw (f .regions) elsewhere, (ceiling, tt))))))),
       )
 
-  -- So it is eligible where the other is
-  pub stays-eligible : Passes p q x → Passes p q y
-  stays-eligible h =
+  -- So, where it costs no more, it is eligible where the other is
+  pub stays-eligible : (less more : ℕ) → less ≤ more → Passes p q x more → Passes p q y less
+  stays-eligible less more c h =
       record {
         gate = gates-pass (h .gate);
-        budget = omega (arith, h .budget, cost-falls p q y x f);
-        utility = positive-up (utilityOf p x q) (utilityOf p y q) (utility-rises p q y x f) (h .utility);
+        budget = omega (arith, h .budget);
+        utility = positive-up (utilityOf p x q more) (utilityOf p y q less) (utility-rises p q y x f less more c) (h .utility);
       }

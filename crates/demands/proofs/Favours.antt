@@ -1,23 +1,27 @@
--- A model that is nowhere less favourable does as well as the other; and each lever's settings are ordered so. Assumes nothing.
-use Rattle.rules.proofs.Kit.{refl, ap, le-refl, le-of-eq}
-use Rattle.rules.specs.{Limits.ppm, Choice.equal, Numbers.Verdict, Rank.better, Halving.Lowest, Halving.Highest, Levers.leverAt}
+-- A model that is nowhere less favourable does as well as the other; and each lever's settings are ordered so. Assumed for the first: the cost
+-- doesn't fall where prices rise.
+use Rattle.rules.proofs.Kit.{_≤_, refl, ap, le-refl, le-of-eq}
+use Rattle.rules.specs.{Limits.ppm, Choice.equal, Numbers.Verdict, Price.Cost, Rank.better, Halving.Lowest, Halving.Highest, Levers.leverAt}
 use Rattle.rules.specs.{declared.records.KernelModel.KernelModel, declared.records.KernelInput.KernelInput, declared.records.PolicySnapshot.PolicySnapshot}
-use Rattle.demands.specs.Standing.{AsGood, Favours, Ordered}
-use Rattle.demands.proofs.{Integers.higher-not, Integers.lower-not, Terms.scaled-rises, Terms.scaled-at-one, Terms.cost-falls, Terms.utility-rises}
-use Rattle.demands.proofs.{Eligible.passes, Eligible.told-terms, Eligible.stays-eligible}
+use Rattle.demands.specs.Standing.{RisesWithPrices, AsGood, Favours, Ordered}
+use Rattle.demands.proofs.{Integers.higher-not, Integers.lower-not, Terms.scaled-rises, Terms.scaled-at-one, Terms.utility-rises, Eligible.passes}
+use Rattle.demands.proofs.{Eligible.told-terms, Eligible.stays-eligible}
 
 -- Demand 3. A model that is nowhere less favourable does as well: it is eligible where the other is, and the other does not rank before it
-pub as-good : (p : PolicySnapshot) (q : KernelInput) (y x : KernelModel) → Favours y x → AsGood p q y x
+pub as-good : (cost : Cost) → RisesWithPrices cost → (p : PolicySnapshot) (q : KernelInput) (y x : KernelModel) → Favours y x → AsGood cost p q y x
 unfolding better
-as-good p q y x f =
+as-good cost rises p q y x f =
+    let less = cost y q in
+    let more = cost x q in
+    let h : less ≤ more = rises q y x (f .inputPrice) (f .outputPrice) in
     record {
       id = f .id;
-      eligible = λ e. ap (λ (v : Verdict). v .kind) (told-terms p q y (stays-eligible p q y x f (passes p q x e)));
+      eligible = λ e. ap (λ (v : Verdict). v .kind) (told-terms p q y less (stays-eligible p q y x f less more h (passes p q x more e)));
       notAfter = λ e place.
-          let h = passes p q x e in
-          rw (told-terms p q x h, told-terms p q y (stays-eligible p q y x f h))
-          (higher-not _ _ _ (utility-rises p q y x f)
-          (lower-not _ _ _ (cost-falls p q y x f)
+          let k = passes p q x more e in
+          rw (told-terms p q x more k, told-terms p q y less (stays-eligible p q y x f less more h k))
+          (higher-not _ _ _ (utility-rises p q y x f less more h)
+          (lower-not _ _ _ h
           (lower-not _ _ _ (f .quality)
           (lower-not _ _ _ (le-of-eq (f .id))
           (lower-not place place _ (le-refl place) refl)))));

@@ -16,6 +16,7 @@ pub mod Ordering
 pub mod Exact
 pub mod Integers
 pub mod Terms
+pub mod Rounding
 pub mod Eligible
 pub mod Favours
 pub mod Firsts
@@ -30,4 +31,5 @@ pub mod Widest
 pub mod Passes
 pub mod Validated
 pub mod BoundariesExample
+pub mod OnceExample
 pub mod SettingsExample

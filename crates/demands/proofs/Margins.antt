@@ -1,15 +1,16 @@
--- DEMAND 3, second half: what `decision_margin` answers is exact. Assumed: unique ids.
+-- DEMAND 3, second half: what `decision_margin` answers is exact. Assumed: unique ids; and over any list, a cost that doesn't fall where prices rise.
 use Rattle.rules.proofs.Kit.{ℕ, zero-le, _≡_, refl, sym, ap, false, List, [], _∷_, List·Memᴰ, List·Memᴰ·head, List·Memᴰ·tail, some, arith, eq-eqb, ne-eqb}
 use Rattle.rules.specs.{Limits.ppm, Limits.maxU32, Limits.maxPriceScale, Choice.equal, Records.Listed, Records.listedOf, Refused.noFault, Refused.bankFaults}
-use Rattle.rules.specs.{Numbers.isRejection, Decide.decisionOf, Listing.firstListed, Halving.Lowest, Halving.Highest, Halving.searchOf}
-use Rattle.rules.specs.{Halving.searchAfterFarEnd, Levers.wins, Margin.marginLevers, Margin.marginFor, Margin.marginIn, Margin.decisionMarginOf}
-use Rattle.rules.specs.{declared.records.KernelInput.KernelInput, declared.records.PolicySnapshot.PolicySnapshot}
-use Rattle.demands.specs.{Standing.UniqueIds, Demand3.marginQuality, Demand3.marginLatency, Demand3.marginPrice, Demand3.marginCeiling, Demand3.question}
-use Rattle.demands.specs.{Demand3.MarginExact, Demand3.MarginOfChoice}
+use Rattle.rules.specs.{Numbers.isRejection, Price.Cost, Price.costUnder, Decide.decisionBy, Decide.decisionOf, Listing.firstListed, Halving.Lowest}
+use Rattle.rules.specs.{Halving.Highest, Halving.searchOf, Halving.searchAfterFarEnd, Levers.wins, Margin.marginLevers, Margin.marginFor, Margin.marginBy}
+use Rattle.rules.specs.{Margin.decisionMarginOf, declared.records.KernelInput.KernelInput, declared.records.PolicySnapshot.PolicySnapshot}
+use Rattle.demands.specs.{Standing.RisesWithPrices, Standing.UniqueIds, Demand3.marginQuality, Demand3.marginLatency, Demand3.marginPrice}
+use Rattle.demands.specs.{Demand3.marginCeiling, Demand3.question, Demand3.MarginExact, Demand3.MarginOfChoice}
 use Rattle.demands.proofs.{Lists.each-member, Selected.chose-selects, Selected.executes, Favours.quality-ordered, Favours.latency-ordered}
 use Rattle.demands.proofs.{Favours.price-ordered, Favours.ceiling-ordered, Favours.quality-today, Favours.latency-today, Favours.price-today}
-use Rattle.demands.proofs.{Favours.ceiling-today, Varied.selects-on, Varied.turns-once, Varied.selected-today, Entries.used-sought, Entries.not-refused}
-use Rattle.demands.proofs.{Entries.Answers, Entries.answers, Entries.kept, Entries.kept-quality}
+use Rattle.demands.proofs.{Favours.ceiling-today, Varied.selects-on, Varied.turns-once, Varied.selected-today, Entries.used-sought}
+use Rattle.demands.proofs.{Entries.not-refused}
+use Rattle.demands.proofs.{Entries.Answers, Entries.answers, Entries.kept, Entries.kept-quality, Rounding.cost-rises}
 
 -- with unique ids a listed record is the first with its id
 unique-first : (ls : List Listed) (k : Listed) → UniqueIds ls → List·Memᴰ k ls → firstListed (k .model .«model_id») ls ≡ some k
@@ -20,38 +21,39 @@ unique-first (l ∷ ls) k u (List·Memᴰ·tail m) =
     rw (ne-eqb (l .model .«model_id») (k .model .«model_id») (each-member (λ (i : Listed). l .model .«model_id» ≡ i .model .«model_id» → ⊥) (u .0) m))
     (unique-first ls k (u .1) m)
 
-module _ (p : PolicySnapshot) (q : KernelInput) (ls : List Listed) (chose : isRejection (decisionOf p q ls) ≡ false) where
-  module _ (l : Listed) (first : firstListed (decisionOf p q ls .model) ls ≡ some l) where
+module _ (cost : Cost) (p : PolicySnapshot) (q : KernelInput) (ls : List Listed) (chose : isRejection (decisionBy cost p q ls) ≡ false) where
+  module _ (l : Listed) (first : firstListed (decisionBy cost p q ls .model) ls ≡ some l) where
     -- the four searches of a margin, and what they found
-    found-to-keep : let a = question p q ls (decisionOf p q ls .model) (l .model) in Answers (marginIn p q ls) a
+    found-to-keep : let a = question cost p q ls (decisionBy cost p q ls .model) (l .model) in Answers (marginBy cost p q ls) a
         (searchOf Lowest (wins a 1) 0 (l .model .«quality_bps»)) (searchAfterFarEnd Highest (wins a 2) (l .model .«p95_latency_ms») maxU32)
         (searchAfterFarEnd Highest (wins a 3) ppm maxPriceScale) (searchAfterFarEnd Lowest (wins a 4) 0 (l .model .«risk_ceiling_bps»))
-    unfolding marginIn marginFor marginLevers
+    unfolding marginBy marginFor marginLevers
     found-to-keep =
-        let d = decisionOf p q ls in
-        let a = question p q ls (d .model) (l .model) in
-        answers (marginIn p q ls) a _ _ _ _ (rw (chose, first) (used-sought (d .model) d false (marginLevers a)))
+        let d = decisionBy cost p q ls in
+        let a = question cost p q ls (d .model) (l .model) in
+        answers (marginBy cost p q ls) a _ _ _ _ (rw (chose, first) (used-sought (d .model) d false (marginLevers a)))
 
-    no-refusal : marginIn p q ls .refusal ≡ noFault
-    unfolding marginIn marginFor
+    no-refusal : marginBy cost p q ls .refusal ≡ noFault
+    unfolding marginBy marginFor
     no-refusal =
-        let d = decisionOf p q ls in
-        rw (chose, first) (not-refused (d .model) d false (marginLevers (question p q ls (d .model) (l .model))))
+        let d = decisionBy cost p q ls in
+        rw (chose, first) (not-refused (d .model) d false (marginLevers (question cost p q ls (d .model) (l .model))))
 
-    -- Demand 3, second half. THE MARGIN IS EXACT, over any list with unique ids whose decision is no rejection
-    pub keep-exact : UniqueIds ls → MarginExact (marginIn p q ls) (question p q ls (decisionOf p q ls .model) (l .model))
-    keep-exact unique =
-        let id = decisionOf p q ls .model in
+    -- Demand 3, second half. THE MARGIN IS EXACT, over any list with unique ids whose decision is no rejection, by any cost that doesn't fall where
+    -- prices rise
+    pub keep-exact : RisesWithPrices cost → UniqueIds ls → MarginExact (marginBy cost p q ls) (question cost p q ls (decisionBy cost p q ls .model) (l .model))
+    keep-exact rises unique =
+        let id = decisionBy cost p q ls .model in
         let f = found-to-keep in
-        let turns = turns-once p q ls id l unique first in
-        let at = selected-today p q ls id l unique first (chose-selects id (decisionOf p q ls) chose refl) in
+        let turns = turns-once cost rises p q ls id l unique first in
+        let at = selected-today cost rises p q ls id l unique first (chose-selects id (decisionBy cost p q ls) chose refl) in
         record {
           answered = no-refusal;
           quality =
               kept-quality (λ b. refl) (turns 1 Lowest quality-ordered (marginQuality (l .model))) (f .quality) zero-le (at 1 _ (quality-today (l .model)));
           latency =
               kept (λ b. refl) (turns 2 Highest latency-ordered (marginLatency (l .model))) (f .latency) (at 2 _ (latency-today (l .model)))
-              (λ h. selects-on p q ls id l unique first 2 Highest latency-ordered (l .model .«p95_latency_ms») maxU32 (omega arith)
+              (λ h. selects-on cost rises p q ls id l unique first 2 Highest latency-ordered (l .model .«p95_latency_ms») maxU32 (omega arith)
               (at 2 _ (latency-today (l .model))));
           price = kept (λ b. refl) (turns 3 Highest price-ordered marginPrice) (f .price) (at 3 _ (price-today (l .model))) (λ h. absurd (omega arith));
           ceiling =
@@ -61,14 +63,14 @@ module _ (p : PolicySnapshot) (q : KernelInput) (ls : List Listed) (chose : isRe
         }
 
   -- Demand 3, second half. The record that is varied is the chosen one
-  pub choice-exact : UniqueIds ls → MarginOfChoice p q ls (marginIn p q ls)
-  choice-exact unique =
-      let (l, f) = executes p q ls chose in
-      let first : firstListed (decisionOf p q ls .model) ls ≡ some l = rw (f .id) (unique-first ls l unique (f .chosen .member)) in
-      record { varied = l; first = first; place = sym (f .place); exact = keep-exact l first unique }
+  pub choice-exact : RisesWithPrices cost → UniqueIds ls → MarginOfChoice cost p q ls (marginBy cost p q ls)
+  choice-exact rises unique =
+      let (l, f) = executes cost p q ls chose in
+      let first : firstListed (decisionBy cost p q ls .model) ls ≡ some l = rw (f .id) (unique-first ls l unique (f .chosen .member)) in
+      record { varied = l; first = first; place = sym (f .place); exact = keep-exact l first rises unique }
 
--- Demand 3, second half. THE MARGIN IS EXACT, of a bank with unique ids whose decision is no rejection
+-- Demand 3, second half. THE MARGIN IS EXACT, of a bank with unique ids whose decision is no rejection, however the policy rounds
 pub decision-margin-exact : (p : PolicySnapshot) (q : KernelInput) (bank : List ℕ) → bankFaults bank ≡ [] → UniqueIds (listedOf bank)
-    → isRejection (decisionOf p q (listedOf bank)) ≡ false → MarginOfChoice p q (listedOf bank) (decisionMarginOf p q bank)
+    → isRejection (decisionOf p q (listedOf bank)) ≡ false → MarginOfChoice (costUnder p) p q (listedOf bank) (decisionMarginOf p q bank)
 unfolding decisionMarginOf
-decision-margin-exact p q bank whole unique chose = rw whole (choice-exact p q (listedOf bank) chose unique)
+decision-margin-exact p q bank whole unique chose = rw whole (choice-exact (costUnder p) p q (listedOf bank) chose (cost-rises (p .rounding)) unique)

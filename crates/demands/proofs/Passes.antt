@@ -1,14 +1,16 @@
 -- DEMAND 3: how many passes the calls take. The number is the published halving's own, in every case; and it is bounded, over any list, also with
--- repeated ids. Assumed for the bounds: latency, quality and ceiling of the model that is varied within their fields, as those of a bank of bytes are.
+-- repeated ids, and by any rule of cost. Assumed for the bounds: latency, quality and ceiling of the model that is varied within their fields, as
+-- those of a bank of bytes are.
 use Rattle.rules.proofs.Kit.{ℕ, _+_, _-_, _*_, _^_, _≤_, _<_, _≡_, refl, ap, _∙_, Bool, true, false, cond, List, [], _∷_, Option, none, some, arith, ne-eqb}
 use Rattle.rules.proofs.Kit.{eqb}
 use Rattle.rules.specs.{Choice.pick, Choice.equal, Order.Each, Records.Listed, Records.listedOf, Refused.Faults, Refused.bankFaults, Refused.fault}
-use Rattle.rules.specs.{Refused.unless, Numbers.Decision, Numbers.Boundary, Numbers.isRejection, Decide.stoppedBy, Decide.decisionOf, Listing.firstListed}
-use Rattle.rules.specs.{Halving.Lowest, Halving.Highest, Halving.passesOf, Levers.Question, Levers.selects, Levers.wins, Levers.Sought, Levers.priced}
-use Rattle.rules.specs.{Levers.noSearch, Levers.boundaryOf, Levers.boundaryRefused, Win.ifOn, Win.winLevers, Win.winSearch, Win.winFor, Win.winIfListed}
-use Rattle.rules.specs.{Win.winIn, Win.whatWouldWinOf, Margin.marginLevers, Margin.marginIfListed, Margin.marginFor, Margin.marginIn, Margin.decisionMarginOf}
-use Rattle.rules.specs.{declared.boundary.Bound.Bound, declared.boundary.Bound.the-variants.At, declared.boundary.Bound.the-variants.Nothing}
-use Rattle.rules.specs.{declared.records.KernelInput.KernelInput, declared.records.PolicySnapshot.PolicySnapshot}
+use Rattle.rules.specs.{Refused.unless, Numbers.Decision, Numbers.Boundary, Numbers.isRejection, Price.Cost, Price.costUnder, Decide.stoppedBy}
+use Rattle.rules.specs.{Decide.decisionBy, Decide.decisionOf, Listing.firstListed, Halving.Lowest, Halving.Highest, Halving.passesOf, Levers.Question}
+use Rattle.rules.specs.{Levers.selects, Levers.wins, Levers.Sought, Levers.priced, Levers.noSearch, Levers.boundaryOf, Levers.boundaryRefused, Win.ifOn}
+use Rattle.rules.specs.{Win.winLevers, Win.winSearch, Win.winFor, Win.winIfListed, Win.winBy, Win.winIn, Win.whatWouldWinOf, Margin.marginLevers}
+use Rattle.rules.specs.{Margin.marginIfListed, Margin.marginFor, Margin.marginBy, Margin.marginIn, Margin.decisionMarginOf, declared.boundary.Bound.Bound}
+use Rattle.rules.specs.{declared.boundary.Bound.the-variants.At, declared.boundary.Bound.the-variants.Nothing, declared.records.KernelInput.KernelInput}
+use Rattle.rules.specs.{declared.records.PolicySnapshot.PolicySnapshot}
 use Rattle.rules.proofs.Halvings.{plain-passes}
 use Rattle.demands.specs.Demand3.{winPrice, marginPrice, question, Unselected, SwitchedOn, passesWithCost, halvingIn, halvingAfterFarEnd, winPasses}
 use Rattle.demands.specs.Demand3.{marginPasses, passesToWin, passesIfListed, passesToWinIn, passesToWinOf, passesToKeepIn, passesToKeepOf, mostToWin}
@@ -31,12 +33,12 @@ margin-levers-passes a = simp (plain-passes, priced-passes)
 
 -- ---- and the calls count as many
 
-for-passes : (a : Question) → winFor a (decisionOf (a .policy) (a .request) (a .list)) .passes ≡ passesToWin a
+for-passes : (a : Question) → winFor a (decisionBy (a .costs) (a .policy) (a .request) (a .list)) .passes ≡ passesToWin a
 unfolding winFor winSearch boundaryOf passesToWin equal
 for-passes a = go (eqb (stoppedBy (a .policy) (a .request)) 0) (selects (a .id) d) (eqb (a .model .enabled) 0) (wins a 5 1)
   where
     d : Decision
-    d = decisionOf (a .policy) (a .request) (a .list)
+    d = decisionBy (a .costs) (a .policy) (a .request) (a .list)
 
     sought : (off wins : Bool) → Sought
     sought off wins = pick off (λ _. ifOn wins) (λ _. winLevers a)
@@ -56,53 +58,53 @@ unless-passes : (fs : Faults) (b : Boundary) → unless fs boundaryRefused b .pa
 unless-passes [] b = refl
 unless-passes (f ∷ fs) b = refl
 
-module _ (p : PolicySnapshot) (q : KernelInput) (ls : List Listed) where
+module _ (cost : Cost) (p : PolicySnapshot) (q : KernelInput) (ls : List Listed) where
   -- Demand 3. THE PASSES OF WHAT WOULD WIN ARE THOSE OWED, over any list
-  pub win-passes : (id : ℕ) → winIn p q ls id .passes ≡ passesToWinIn p q ls id
-  unfolding winIn passesToWinIn
+  pub win-passes : (id : ℕ) → winBy cost p q ls id .passes ≡ passesToWinIn cost p q ls id
+  unfolding winBy passesToWinIn
   win-passes id = go (firstListed id ls)
     where
-      go : (o : Option Listed) → winIfListed p q ls id o .passes ≡ passesIfListed passesToWin p q ls id o
+      go : (o : Option Listed) → winIfListed cost p q ls id o .passes ≡ passesIfListed passesToWin cost p q ls id o
       go none = refl
-      go (some l) = for-passes (question p q ls id (l .model))
+      go (some l) = for-passes (question cost p q ls id (l .model))
 
   -- Demand 3. AND SO ARE THOSE OF A MARGIN
-  pub keep-passes : marginIn p q ls .passes ≡ passesToKeepIn p q ls
-  unfolding marginIn marginFor boundaryOf passesToKeepIn
+  pub keep-passes : marginBy cost p q ls .passes ≡ passesToKeepIn cost p q ls
+  unfolding marginBy marginFor boundaryOf passesToKeepIn
   keep-passes = go (isRejection d) (firstListed (d .model) ls)
     where
       d : Decision
-      d = decisionOf p q ls
+      d = decisionBy cost p q ls
 
       go : (rejects : Bool) (o : Option Listed)
-          → pick rejects (λ _. boundaryRefused (fault 6)) (λ _. marginIfListed p q ls d o) .passes
-          ≡ cond rejects 0 (passesIfListed marginPasses p q ls (d .model) o)
+          → pick rejects (λ _. boundaryRefused (fault 6)) (λ _. marginIfListed cost p q ls d o) .passes
+          ≡ cond rejects 0 (passesIfListed marginPasses cost p q ls (d .model) o)
       go true o = refl
       go false none = refl
-      go false (some l) = margin-levers-passes (question p q ls (d .model) (l .model))
+      go false (some l) = margin-levers-passes (question cost p q ls (d .model) (l .model))
 
 module _ (p : PolicySnapshot) (q : KernelInput) (bank : List ℕ) where
   -- Demand 3. THE PASSES OF THE CALL `what_would_win` ARE THOSE OWED, whatever is asked: refused or not, stopped, selected, off, or searched
   pub what-would-win-passes : (id : ℕ) → whatWouldWinOf p q bank id .passes ≡ passesToWinOf p q bank id
   unfolding whatWouldWinOf passesToWinOf
   what-would-win-passes id =
-      unless-passes (bankFaults bank) (winIn p q (listedOf bank) id) ∙ ap (unless (bankFaults bank) (λ f. 0)) (win-passes p q (listedOf bank) id)
+      unless-passes (bankFaults bank) (winIn p q (listedOf bank) id) ∙ ap (unless (bankFaults bank) (λ f. 0)) (win-passes (costUnder p) p q (listedOf bank) id)
 
   -- Demand 3. THE PASSES OF THE CALL `decision_margin` ARE THOSE OWED
   pub decision-margin-passes : decisionMarginOf p q bank .passes ≡ passesToKeepOf p q bank
   unfolding decisionMarginOf passesToKeepOf
   decision-margin-passes =
-      unless-passes (bankFaults bank) (marginIn p q (listedOf bank)) ∙ ap (unless (bankFaults bank) (λ f. 0)) (keep-passes p q (listedOf bank))
+      unless-passes (bankFaults bank) (marginIn p q (listedOf bank)) ∙ ap (unless (bankFaults bank) (λ f. 0)) (keep-passes (costUnder p) p q (listedOf bank))
 
   -- so where four levers are searched they are the halvings' own
-  pub searched-passes : (id : ℕ) (l : Listed) → bankFaults bank ≡ [] → Unselected p q (listedOf bank) id l → SwitchedOn (l .model)
-      → whatWouldWinOf p q bank id .passes ≡ winPasses (question p q (listedOf bank) id (l .model))
+  pub searched-passes : (id : ℕ) (l : Listed) → bankFaults bank ≡ [] → Unselected (costUnder p) p q (listedOf bank) id l → SwitchedOn (l .model)
+      → whatWouldWinOf p q bank id .passes ≡ winPasses (question (costUnder p) p q (listedOf bank) id (l .model))
   unfolding passesToWinOf passesToWinIn passesToWin equal
   searched-passes id l whole u on = what-would-win-passes id ∙ rw (whole, u .listed, u .goesOn, u .notSelected, ne-eqb (l .model .enabled) 0 on)
 
   pub kept-passes : (l : Listed) → bankFaults bank ≡ [] → isRejection (decisionOf p q (listedOf bank)) ≡ false
       → firstListed (decisionOf p q (listedOf bank) .model) (listedOf bank) ≡ some l
-      → decisionMarginOf p q bank .passes ≡ marginPasses (question p q (listedOf bank) (decisionOf p q (listedOf bank) .model) (l .model))
+      → decisionMarginOf p q bank .passes ≡ marginPasses (question (costUnder p) p q (listedOf bank) (decisionOf p q (listedOf bank) .model) (l .model))
   unfolding passesToKeepOf passesToKeepIn
   kept-passes l whole chose first = decision-margin-passes ∙ rw (whole, chose, first)
 
@@ -141,7 +143,7 @@ to-win-few : (a : Question) → a .model .«p95_latency_ms» ≤ 2 ^ 32 - 1 → 
 unfolding passesToWin equal
 to-win-few a h =
     either-few {b = 1} (eqb (stoppedBy (a .policy) (a .request)) 0)
-    (either-few {a = 1} (selects (a .id) (decisionOf (a .policy) (a .request) (a .list))) (omega arith)
+    (either-few {a = 1} (selects (a .id) (decisionBy (a .costs) (a .policy) (a .request) (a .list))) (omega arith)
     (either-few {a = 2} (eqb (a .model .enabled) 0) (omega arith) (win-passes-few a h)))
     (omega arith)
 
@@ -150,37 +152,38 @@ unless-few : (n : ℕ) (fs : Faults) (b : Boundary) → b .passes ≤ n → unle
 unless-few n [] b h = h
 unless-few n (f ∷ fs) b h = omega arith
 
-module _ (p : PolicySnapshot) (q : KernelInput) (ls : List Listed) where
+module _ (cost : Cost) (p : PolicySnapshot) (q : KernelInput) (ls : List Listed) where
   listed-few : (n : ℕ) (passes : Question → ℕ) (id : ℕ) (o : Option Listed)
-      → ((l : Listed) → o ≡ some l → passes (question p q ls id (l .model)) ≤ n)
-      → passesIfListed passes p q ls id o ≤ n
+      → ((l : Listed) → o ≡ some l → passes (question cost p q ls id (l .model)) ≤ n)
+      → passesIfListed passes cost p q ls id o ≤ n
   listed-few n passes id none h = omega arith
   listed-few n passes id (some l) h = h l refl
 
   kept-few : (k : ℕ)
-      → ((l : Listed) → firstListed (decisionOf p q ls .model) ls ≡ some l → (l .model .«quality_bps» < 2 ^ k) × (l .model .«risk_ceiling_bps» < 2 ^ k))
-      → marginIn p q ls .passes ≤ 71 + 2 * k
+      → ((l : Listed) → firstListed (decisionBy cost p q ls .model) ls ≡ some l → (l .model .«quality_bps» < 2 ^ k) × (l .model .«risk_ceiling_bps» < 2 ^ k))
+      → marginBy cost p q ls .passes ≤ 71 + 2 * k
   unfolding passesToKeepIn
   kept-few k h =
-      rw (keep-passes p q ls)
-      (either-few {a = 0} (isRejection (decisionOf p q ls)) (omega arith)
-      (listed-few (71 + 2 * k) marginPasses (decisionOf p q ls .model) (firstListed (decisionOf p q ls .model) ls)
-      (λ l e. margin-passes-few k (question p q ls _ (l .model)) (h l e .0) (h l e .1))))
+      rw (keep-passes cost p q ls)
+      (either-few {a = 0} (isRejection (decisionBy cost p q ls)) (omega arith)
+      (listed-few (71 + 2 * k) marginPasses (decisionBy cost p q ls .model) (firstListed (decisionBy cost p q ls .model) ls)
+      (λ l e. margin-passes-few k (question cost p q ls _ (l .model)) (h l e .0) (h l e .1))))
 
   -- Demand 3. WHAT WOULD WIN TAKES AT MOST 86 PASSES, over any list: the model asked about needs only a latency of 32 bits
-  pub win-few : (id : ℕ) → ((l : Listed) → firstListed id ls ≡ some l → l .model .«p95_latency_ms» ≤ 2 ^ 32 - 1) → winIn p q ls id .passes ≤ mostToWin
+  pub win-few : (id : ℕ) → ((l : Listed) → firstListed id ls ≡ some l → l .model .«p95_latency_ms» ≤ 2 ^ 32 - 1) → winBy cost p q ls id .passes ≤ mostToWin
   unfolding passesToWinIn
   win-few id h =
-      rw (win-passes p q ls id)
-      (listed-few mostToWin passesToWin id (firstListed id ls) (λ l e. to-win-few (question p q ls id (l .model)) (h l e)))
+      rw (win-passes cost p q ls id)
+      (listed-few mostToWin passesToWin id (firstListed id ls) (λ l e. to-win-few (question cost p q ls id (l .model)) (h l e)))
 
   -- Demand 3. A MARGIN TAKES AT MOST 103 PASSES, over any list: the model that is varied needs only a quality and a ceiling of 16 bits
-  pub margin-few : ((l : Listed) → firstListed (decisionOf p q ls .model) ls ≡ some l → BpsWithin 65535 (l .model)) → marginIn p q ls .passes ≤ mostForMargin
+  pub margin-few : ((l : Listed) → firstListed (decisionBy cost p q ls .model) ls ≡ some l → BpsWithin 65535 (l .model))
+      → marginBy cost p q ls .passes ≤ mostForMargin
   margin-few h = kept-few 16 (λ l e. let w = h l e in ((omega arith), (omega arith)))
 
   -- Demand 3. And at most 99 where these are within 10,000
-  pub margin-few-within : ((l : Listed) → firstListed (decisionOf p q ls .model) ls ≡ some l → BpsWithin 10000 (l .model))
-      → marginIn p q ls .passes ≤ mostForMarginWithin
+  pub margin-few-within : ((l : Listed) → firstListed (decisionBy cost p q ls .model) ls ≡ some l → BpsWithin 10000 (l .model))
+      → marginBy cost p q ls .passes ≤ mostForMarginWithin
   margin-few-within h = kept-few 14 (λ l e. let w = h l e in ((omega arith), (omega arith)))
 
 module _ (p : PolicySnapshot) (q : KernelInput) (bank : List ℕ) where
@@ -189,18 +192,18 @@ module _ (p : PolicySnapshot) (q : KernelInput) (bank : List ℕ) where
   unfolding whatWouldWinOf
   what-would-win-few id h =
       unless-few mostToWin (bankFaults bank) (winIn p q (listedOf bank) id)
-      (win-few p q (listedOf bank) id (λ l e. first-of _ id (listedOf bank) l (bytes-narrow bank h) e .latency))
+      (win-few (costUnder p) p q (listedOf bank) id (λ l e. first-of _ id (listedOf bank) l (bytes-narrow bank h) e .latency))
 
   -- Demand 3. AT MOST 103 PASSES, of any bank of bytes
   pub decision-margin-few : AreBytes bank → decisionMarginOf p q bank .passes ≤ mostForMargin
   unfolding decisionMarginOf
   decision-margin-few h =
       unless-few mostForMargin (bankFaults bank) (marginIn p q (listedOf bank))
-      (margin-few p q (listedOf bank) (λ l e. first-of _ _ (listedOf bank) l (bytes-narrow bank h) e .within))
+      (margin-few (costUnder p) p q (listedOf bank) (λ l e. first-of _ _ (listedOf bank) l (bytes-narrow bank h) e .within))
 
   -- Demand 3. AT MOST 99 PASSES, of a bank whose qualities and ceilings are within 10,000, as validation asks
   pub decision-margin-few-within : Each (λ l. BpsWithin 10000 (l .model)) (listedOf bank) → decisionMarginOf p q bank .passes ≤ mostForMarginWithin
   unfolding decisionMarginOf
   decision-margin-few-within h =
       unless-few mostForMarginWithin (bankFaults bank) (marginIn p q (listedOf bank))
-      (margin-few-within p q (listedOf bank) (λ l e. first-of _ _ (listedOf bank) l h e))
+      (margin-few-within (costUnder p) p q (listedOf bank) (λ l e. first-of _ _ (listedOf bank) l h e))

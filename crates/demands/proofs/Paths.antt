@@ -1,10 +1,12 @@
 -- THE FAST AND THE SLOW PATHS AGREE: whichever of its two ways of computing the Rust takes, cost, terms and utility are those of the rules
--- (D21). Assumed: a model is one of the catalogue, and fields are within the Rust's types. `Widths` adds that i128 holds the slow numbers.
+-- (D21), where they round apart as it does. Assumed: a model is one of the catalogue, and fields are within the Rust's types. `Widths` adds that
+-- i128 holds the slow numbers.
 use Rattle.rules.proofs.Kit.{ℕ, min, _*_, _/_, _^_, _<_, _≡_, refl, sym, ap, _∙_, true, List, List·Memᴰ, some, bind-eq-some-iff, mod-eq-of-lt, lt-of-le-of-lt}
 use Rattle.rules.proofs.Kit.{mul-le-mul-left, mul-le-mul-right, arith}
-use Rattle.rules.specs.{Limits.scaledBasisPoints, Limits.maxU64, Price.costOf, Utility.orZero, Utility.shareOf, Utility.qualityTermOf, Utility.riskTermOf}
-use Rattle.rules.specs.{Utility.latencyTermOf, Utility.exactUtilityOf, Utility.utilityOf, declared.records.KernelModel.KernelModel}
+use Rattle.rules.specs.{Limits.scaledBasisPoints, Limits.maxU64, Price.billedBoth, Price.costOf, Utility.orZero, Utility.shareOf, Utility.qualityTermOf}
+use Rattle.rules.specs.{Utility.riskTermOf, Utility.latencyTermOf, Utility.exactUtilityOf, Utility.utilityOf, declared.records.KernelModel.KernelModel}
 use Rattle.rules.specs.{declared.records.KernelInput.KernelInput, declared.records.PolicySnapshot.PolicySnapshot}
+use Rattle.rules.specs.declared.records.Rounding.the-variants.{Apart}
 use Rattle.demands.specs.{Machine.wrappingMul, Widths.ModelTyped, Widths.RequestTyped, Paths.maxQuality, Paths.modelCostFast, Paths.modelCostReference}
 use Rattle.demands.specs.{Paths.allCostsFit, Paths.scaledTermReference, Paths.scaledTermExact, Paths.qualityPrefix, Paths.qualityTermFast}
 use Rattle.demands.specs.{Paths.qualityTermReference, Paths.allLatenciesFit, Paths.latencyTermFast, Paths.latencyTermReference, Paths.pricingCost}
@@ -14,9 +16,9 @@ use Rattle.demands.proofs.{Costs.sum-fast, Costs.sum-reference}
 
 -- ---- the slow ways are the rules, always
 
--- Demand 2, cost. The slow cost is the rule's cost
-pub cost-reference : (m : KernelModel) (q : KernelInput) → ModelTyped m → RequestTyped q → modelCostReference m q ≡ costOf m q
-unfolding modelCostReference costOf
+-- Demand 2, cost. The slow cost is the rule's cost, rounded apart
+pub cost-reference : (m : KernelModel) (q : KernelInput) → ModelTyped m → RequestTyped q → modelCostReference m q ≡ costOf Apart m q
+unfolding modelCostReference costOf billedBoth
 cost-reference m q mt qt = ap (min maxU64) (sum-reference _ _ _ _ (qt .inputTokens) (mt .inputPrice) (qt .outputTokens) (mt .outputPrice))
 
 -- Demand 2, terms. The slow share of a value is the rule's
@@ -57,8 +59,8 @@ prefix-fits ms q prefix e =
 
 module _ (ms : List KernelModel) (m : KernelModel) (q : KernelInput) (among : List·Memᴰ m ms) where
   -- Demand 2, cost. Where the test over the catalogue's maxima passes, the fast cost is the rule's
-  pub cost-fast : allCostsFit ms q ≡ true → modelCostFast m q ≡ costOf m q
-  unfolding modelCostFast costOf
+  pub cost-fast : allCostsFit ms q ≡ true → modelCostFast m q ≡ costOf Apart m q
+  unfolding modelCostFast costOf billedBoth
   cost-fast fit =
       let input = mul-le-mul-left (q .«input_tokens») (at-most-largest (λ m. m .«input_cost_microunits_per_million_tokens») among) in
       let output = mul-le-mul-left (q .«output_tokens») (at-most-largest (λ m. m .«output_cost_microunits_per_million_tokens») among) in
@@ -81,7 +83,7 @@ module _ (ms : List KernelModel) (m : KernelModel) (q : KernelInput) (among : Li
   quality-paths prefix taken = quality-fast prefix taken ∙ sym (quality-reference m q)
 
   -- by the way that the test chooses
-  cost-way : ModelTyped m → RequestTyped q → pricingCost ms m q ≡ costOf m q
+  cost-way : ModelTyped m → RequestTyped q → pricingCost ms m q ≡ costOf Apart m q
   unfolding pricingCost
   cost-way mt qt = by-test _ _ _ (cost-paths mt qt) ∙ cost-reference m q mt qt
 
@@ -114,11 +116,11 @@ risk-way p q = scaled-paths _ _ _ ∙ scaled-reference _ _ _
 
 module _ (p : PolicySnapshot) (m : KernelModel) (q : KernelInput) (mt : ModelTyped m) (qt : RequestTyped q) where
   -- Demand 2, utility. For every model of a catalogue, `Pricing` computes the rule's utility, whichever way each test chooses
-  pub utility-paths : (ms : List KernelModel) → List·Memᴰ m ms → pricingUtility p ms m q ≡ utilityOf p m q
+  pub utility-paths : (ms : List KernelModel) → List·Memᴰ m ms → pricingUtility p ms m q ≡ utilityOf p m q (costOf Apart m q)
   unfolding pricingUtility utilityOf exactUtilityOf
   utility-paths ms among = rw (quality-way ms m q among, risk-way p q, cost-way ms m q among mt qt, latency-way p ms m among)
 
   -- Demand 2, utility. And so do the slow ways alone
-  pub utility-reference : referenceUtility p m q ≡ utilityOf p m q
+  pub utility-reference : referenceUtility p m q ≡ utilityOf p m q (costOf Apart m q)
   unfolding referenceUtility utilityOf exactUtilityOf riskTermOf
   utility-reference = rw (quality-reference m q, scaled-reference, cost-reference m q mt qt, latency-reference p m)

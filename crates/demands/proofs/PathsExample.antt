@@ -1,8 +1,9 @@
 -- `Paths` at document 01's example, where every test passes, and at a catalogue that takes the slow way. Assumes nothing.
 use Rattle.rules.proofs.Kit.{_≡_, refl, _∙_, true, false, List, [], _∷_, List·Memᴰ, List·Memᴰ·head, List·Memᴰ·tail, some, bind, lit<, pos, replicate}
-use Rattle.rules.specs.{Choice.below, Bytes.number, Records.modelOf, Records.inputOf, Records.policyOf, Price.billed, Price.costOf, Utility.shareOf}
-use Rattle.rules.specs.{Utility.qualityTermOf, Utility.riskTermOf, Utility.latencyTermOf, Utility.exactUtilityOf, Utility.utilityOf}
-use Rattle.rules.specs.{declared.records.KernelModel.KernelModel}
+use Rattle.rules.specs.{Choice.below, Bytes.number, Records.modelOf, Records.inputOf, Records.policyWith, Records.policyOf, Price.billed, Price.billedBoth}
+use Rattle.rules.specs.{Price.costOf, Utility.shareOf, Utility.qualityTermOf, Utility.riskTermOf, Utility.latencyTermOf, Utility.exactUtilityOf}
+use Rattle.rules.specs.{Utility.utilityOf, declared.records.KernelModel.KernelModel}
+use Rattle.rules.specs.declared.records.Rounding.the-variants.{Apart}
 use Rattle.rules.proofs.Example.{modelOne, modelTwo, with}
 use Rattle.demands.specs.{Machine.wrappingMul, Machine.wrappingAdd, Machine.checked, Machine.isSome, Widths.ModelTyped, Widths.RequestTyped}
 use Rattle.demands.specs.{Paths.largest, Paths.modelCostFast, Paths.allCostsFit, Paths.qualityPrefix, Paths.allLatenciesFit, Paths.pricingUtility}
@@ -36,12 +37,12 @@ unfolding qualityPrefix largest isSome bind checked below modelOf inputOf number
 prefix = refl
 
 latencies : allLatenciesFit p catalogue ≡ true
-unfolding allLatenciesFit largest isSome checked below modelOf policyOf number
+unfolding allLatenciesFit largest isSome checked below modelOf policyWith policyOf number
 latencies = refl
 
 -- utility 6200, by the ways that the tests choose and by the slow ones
-utility-6200 : utilityOf p two q ≡ pos 6200
-unfolding utilityOf exactUtilityOf qualityTermOf riskTermOf latencyTermOf shareOf costOf billed modelOf inputOf policyOf number
+utility-6200 : utilityOf p two q (costOf Apart two q) ≡ pos 6200
+unfolding utilityOf exactUtilityOf qualityTermOf riskTermOf latencyTermOf shareOf costOf billedBoth billed modelOf inputOf policyWith policyOf number
 utility-6200 = refl
 
 chosen-utility : pricingUtility p catalogue two q ≡ pos 6200
@@ -58,8 +59,8 @@ dear-fails : allCostsFit (dear ∷ catalogue) q ≡ false
 unfolding allCostsFit largest isSome bind checked below modelOf inputOf number
 dear-fails = refl
 
-dear-costs : (modelCostFast dear q ≡ 200) × (costOf dear q ≡ 1844674407371156)
-unfolding modelCostFast wrappingMul wrappingAdd costOf billed modelOf inputOf number
+dear-costs : (modelCostFast dear q ≡ 200) × (costOf Apart dear q ≡ 1844674407371156)
+unfolding modelCostFast wrappingMul wrappingAdd costOf billedBoth billed modelOf inputOf number
 dear-costs = (refl, refl)
 
 dear-utility : pricingUtility p (dear ∷ catalogue) two q ≡ pos 6200

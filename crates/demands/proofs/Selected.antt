@@ -1,7 +1,8 @@
--- What a decision selects: the id of the record that is chosen. A rejection selects none. Assumes nothing.
+-- What a decision selects, by any rule of cost: the id of the record that is chosen. A rejection selects none. Assumes nothing.
 use Rattle.rules.proofs.Kit.{ℕ, _≡_, refl, sym, ap, _∙_, Bool, true, false, cond, not, _&&_, false≢true, List, [], _∷_, eqb-true, eq-eqb, eqb}
-use Rattle.rules.specs.{Choice.equal, Records.Listed, Numbers.Decision, Numbers.isRejection, Verdict.judge, Verdict.judged, Rank.Candidate, Rank.candidateOf}
-use Rattle.rules.specs.{Rank.ranking, Decide.stoppedBy, Decide.rejection, Decide.executedAs, Decide.chosen, Decide.decisionOf, Levers.selects}
+use Rattle.rules.specs.{Choice.equal, Records.Listed, Numbers.Decision, Numbers.isRejection, Price.Cost, Verdict.judgeBy, Verdict.judgedBy, Rank.Candidate}
+use Rattle.rules.specs.{Rank.candidateOf, Rank.ranking, Decide.stoppedBy, Decide.rejection, Decide.executedAs, Decide.chosen, Decide.decisionBy}
+use Rattle.rules.specs.{Levers.selects}
 use Rattle.rules.specs.{declared.records.KernelInput.KernelInput, declared.records.PolicySnapshot.PolicySnapshot}
 use Rattle.rules.proofs.Stopped.{not-stopped}
 use Rattle.demands.specs.Standing.{Chosen}
@@ -41,37 +42,38 @@ module _ (p : PolicySnapshot) (q : KernelInput) where
       go true = refl
       go false = refl
 
-  module _ (ls : List Listed) where
-    -- a decision that is no rejection is for a chosen record, with its id and place
-    pub record For (l : Listed) : Type 0 where
-      pub chosen : Chosen p q ls l
-      pub id : decisionOf p q ls .model ≡ l .model .«model_id»
-      pub place : decisionOf p q ls .place ≡ l .place
+module _ (cost : Cost) (p : PolicySnapshot) (q : KernelInput) (ls : List Listed) where
+  -- a decision that is no rejection is for a chosen record, with its id and place
+  pub record For (l : Listed) : Type 0 where
+    pub chosen : Chosen cost p q ls l
+    pub id : decisionBy cost p q ls .model ≡ l .model .«model_id»
+    pub place : decisionBy cost p q ls .place ≡ l .place
 
-    pub executes : isRejection (decisionOf p q ls) ≡ false → (l : Listed) × For l
-    executes e = go (ranking (judged p q ls)) refl
-      where
-        z : stoppedBy p q ≡ 0
-        z = not-stopped p q ls e
+  pub executes : isRejection (decisionBy cost p q ls) ≡ false → (l : Listed) × For l
+  executes e = go (ranking (judgedBy cost p q ls)) refl
+    where
+      z : stoppedBy p q ≡ 0
+      z = not-stopped cost p q ls e
 
-        go : (cs : List Candidate) → ranking (judged p q ls) ≡ cs → (l : Listed) × For l
-        go [] r = absurd (false≢true (sym e ∙ ap isRejection (rejected-where-none p q ls z r) ∙ rejection-is _ _))
-        go (c ∷ rest) r =
-            let (l, h, s) = first-chosen p q ls c rest r in
-            let d = decided-by-first-two p q ls z c rest r in
-            (l, record { chosen = h; id = d .model ∙ ap (λ (x : Candidate). x .id) s; place = d .place ∙ ap (λ (x : Candidate). x .place) s })
+      go : (cs : List Candidate) → ranking (judgedBy cost p q ls) ≡ cs → (l : Listed) × For l
+      go [] r = absurd (false≢true (sym e ∙ ap isRejection (rejected-where-none cost p q ls z r) ∙ rejection-is p q _ _))
+      go (c ∷ rest) r =
+          let (l, h, s) = first-chosen cost p q ls c rest r in
+          let d = decided-by-first-two cost p q ls z c rest r in
+          (l, record { chosen = h; id = d .model ∙ ap (λ (x : Candidate). x .id) s; place = d .place ∙ ap (λ (x : Candidate). x .place) s })
 
-    -- so what is selected is the id of a chosen record
-    pub selected-chosen : (id : ℕ) → selects id (decisionOf p q ls) ≡ true → (stoppedBy p q ≡ 0) × (l : Listed) × Chosen p q ls l × (l .model .«model_id» ≡ id)
-    selected-chosen id e =
-        let (a, b) = selects-chose id (decisionOf p q ls) e in
-        let (l, f) = executes a in
-        (not-stopped p q ls a, l, f .chosen, sym (f .id) ∙ b)
+  -- so what is selected is the id of a chosen record
+  pub selected-chosen : (id : ℕ) → selects id (decisionBy cost p q ls) ≡ true
+      → (stoppedBy p q ≡ 0) × (l : Listed) × Chosen cost p q ls l × (l .model .«model_id» ≡ id)
+  selected-chosen id e =
+      let (a, b) = selects-chose id (decisionBy cost p q ls) e in
+      let (l, f) = executes a in
+      (not-stopped cost p q ls a, l, f .chosen, sym (f .id) ∙ b)
 
-    -- and the id of a chosen record is selected
-    pub chosen-selected : (l : Listed) → stoppedBy p q ≡ 0 → Chosen p q ls l → selects (l .model .«model_id») (decisionOf p q ls) ≡ true
-    chosen-selected l z h =
-        let (rest, r) = chosen-first p q ls l h in
-        chose-selects (l .model .«model_id») (decisionOf p q ls)
-        (ap isRejection (chosen-is p q ls z (candidateOf (judge p q l)) rest r) ∙ chosen-is-none _ _ rest)
-        (decided-by-first-two p q ls z (candidateOf (judge p q l)) rest r .model)
+  -- and the id of a chosen record is selected
+  pub chosen-selected : (l : Listed) → stoppedBy p q ≡ 0 → Chosen cost p q ls l → selects (l .model .«model_id») (decisionBy cost p q ls) ≡ true
+  chosen-selected l z h =
+      let (rest, r) = chosen-first cost p q ls l h in
+      chose-selects (l .model .«model_id») (decisionBy cost p q ls)
+      (ap isRejection (chosen-is cost p q ls z (candidateOf (judgeBy cost p q l)) rest r) ∙ chosen-is-none p q _ _ rest)
+      (decided-by-first-two cost p q ls z (candidateOf (judgeBy cost p q l)) rest r .model)

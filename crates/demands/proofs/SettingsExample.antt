@@ -3,13 +3,13 @@
 use Rattle.rules.proofs.Kit.{ℕ, _≤_, _≡_, refl, _∙_, true, List, [], _∷_, _++_, replicate}
 use Rattle.rules.proofs.{Opened.rules, Example.bank, Example.modelOne, Example.modelTwo, Example.policy, Example.request, Example.with}
 use Rattle.rules.specs.{Choice.below, Choice.atLeast, Choice.equal, Bytes.number, Records.Listed, Records.listed, Records.modelOf, Records.modelAt}
-use Rattle.rules.specs.{Records.inputOf, Records.policyOf, Records.listedOf, Refused.lengthFaults, Numbers.isRejection, Decide.stoppedBy, Decide.decisionOf}
-use Rattle.rules.specs.{Listing.firstListed, Levers.selects, Levers.wins, Win.whatWouldWinOf, Margin.marginIn, Margin.decisionMarginOf}
-use Rattle.rules.specs.{declared.records.KernelInput.KernelInput, declared.records.PolicySnapshot.PolicySnapshot}
+use Rattle.rules.specs.{Records.inputOf, Records.policyWith, Records.policyOf, Records.listedOf, Price.costUnder, Refused.lengthFaults, Numbers.isRejection}
+use Rattle.rules.specs.{Decide.stoppedBy, Decide.decisionOf, Listing.firstListed, Levers.Question, Levers.selects, Levers.wins, Win.whatWouldWinOf}
+use Rattle.rules.specs.{Margin.marginIn, Margin.decisionMarginOf, declared.records.KernelInput.KernelInput, declared.records.PolicySnapshot.PolicySnapshot}
 use Rattle.demands.specs.Demand3.{question, ofLever, entriesFor, passesToWin, passesToWinIn, passesToWinOf, passesToKeepIn, passesToKeepOf, Sound}
 use Rattle.demands.specs.Demand3.{Unselected, MarginExact}
-use Rattle.demands.proofs.{Margins.keep-exact, Validated.validated-sound, BoundariesExample.p, BoundariesExample.q, BoundariesExample.first-is-two}
-use Rattle.demands.proofs.{BoundariesExample.decides-two, Passes.what-would-win-passes, Passes.decision-margin-passes}
+use Rattle.demands.proofs.{Rounding.cost-rises, Margins.keep-exact, Validated.validated-sound, BoundariesExample.p, BoundariesExample.q}
+use Rattle.demands.proofs.{BoundariesExample.first-is-two, BoundariesExample.decides-two, Passes.what-would-win-passes, Passes.decision-margin-passes}
 
 -- validation accepts the example's bank, so that it is sound
 sound : Sound bank
@@ -38,7 +38,7 @@ reaches-103 = refl
 abbrev free : List ℕ
 free = with 10 (0 ∷ []) (with 31 (replicate 16 0) modelOne) ++ modelTwo
 
-free-unselected : Unselected p q (listedOf free) 1 (listed 0 (modelAt free 0))
+free-unselected : Unselected (costUnder p) p q (listedOf free) 1 (listed 0 (modelAt free 0))
 unfolding rules
 free-unselected = record { listed = refl; goesOn = refl; notSelected = refl }
 
@@ -60,7 +60,7 @@ unfolding selects
 two-selected = rw decides-two
 
 selected-once : whatWouldWinOf p q bank 2 .passes ≡ 1
-unfolding lengthFaults stoppedBy atLeast below equal number inputOf policyOf passesToWin passesToWinIn passesToWinOf
+unfolding lengthFaults stoppedBy atLeast below equal number inputOf policyWith policyOf passesToWin passesToWinIn passesToWinOf
 selected-once = what-would-win-passes p q bank 2 ∙ rw (first-is-two, two-selected)
 
 -- ---- refused, no pass: an id that isn't listed, a bank of one byte, a rejection
@@ -92,14 +92,17 @@ no-margin = decision-margin-passes p broke nameless ∙ rw rejected
 abbrev alone : List Listed
 alone = listedOf modelTwo
 
-slowest : MarginExact (marginIn patient q alone) (question patient q alone (decisionOf patient q alone .model) (modelAt modelTwo 0))
+abbrev aboutAlone : Question
+aboutAlone = question (costUnder patient) patient q alone (decisionOf patient q alone .model) (modelAt modelTwo 0)
+
+slowest : MarginExact (marginIn patient q alone) aboutAlone
 unfolding rules
-slowest = keep-exact patient q alone refl (listed 0 (modelAt modelTwo 0)) refl (tt, tt)
+slowest = keep-exact (costUnder patient) patient q alone refl (listed 0 (modelAt modelTwo 0)) refl (cost-rises (patient .rounding)) (tt, tt)
 
 no-latency : entriesFor 2 (marginIn patient q alone) ≡ []
 unfolding rules ofLever
 no-latency = refl
 
-any-latency : (v : ℕ) → 50 ≤ v → v ≤ 4294967295 → wins (question patient q alone (decisionOf patient q alone .model) (modelAt modelTwo 0)) 2 v ≡ true
+any-latency : (v : ℕ) → 50 ≤ v → v ≤ 4294967295 → wins aboutAlone 2 v ≡ true
 unfolding modelOf number
 any-latency v h k = slowest .latency .missing .0 no-latency v (h, k)

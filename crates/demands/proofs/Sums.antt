@@ -1,8 +1,9 @@
 -- The nine counts and the eligible models make up the evaluated ones, whatever the request. Assumes nothing.
 use Rattle.rules.proofs.Kit.{ℕ, suc, _+_, _≡_, refl, sym, ap, _∙_, Bool, true, false, cond, List, [], _∷_, add-one, ltb, length}
 use Rattle.rules.specs.{Choice.below, Records.Listed, Verdict.Judged, Verdict.judged, Rank.Candidate, Rank.eligibles, Rank.ranking, Count.noCounts}
-use Rattle.rules.specs.{Count.countsOf, Count.total, Decide.stoppedBy, Decide.rejection, Decide.chosen, Decide.byRanking, Decide.byVerdicts, Decide.decisionOf}
-use Rattle.rules.specs.{Decide.countsIn, declared.records.KernelInput.KernelInput, declared.records.PolicySnapshot.PolicySnapshot}
+use Rattle.rules.specs.{Count.countsOf, Count.total, Decide.stoppedBy, Decide.rejection, Decide.chosen, Decide.byRanking, Decide.byVerdicts}
+use Rattle.rules.specs.{Decide.decisionBy}
+use Rattle.rules.specs.{Decide.decisionOf, Decide.countsIn, declared.records.KernelInput.KernelInput, declared.records.PolicySnapshot.PolicySnapshot}
 use Rattle.rules.proofs.Counts.{counts-sum}
 use Rattle.demands.specs.Lists.{many}
 use Rattle.demands.proofs.Ranking.{ranking-counts}
@@ -32,7 +33,7 @@ module _ (p : PolicySnapshot) (q : KernelInput) where
 
   -- Demand 2. THE NINE COUNTS AND THE ELIGIBLE MODELS MAKE UP THE EVALUATED ONES: for every list of records, stopped requests included
   pub counts-make-up : (ls : List Listed) → total (countsIn p q ls) + decisionOf p q ls .eligible ≡ decisionOf p q ls .evaluated
-  unfolding countsIn decisionOf rejection below
+  unfolding countsIn decisionBy rejection below
   counts-make-up ls = go (ltb 0 (stoppedBy p q))
     where
       go : (t : Bool) → total (cond t noCounts (countsOf (judged p q ls))) + cond t (rejection p q (stoppedBy p q) 0) (byVerdicts p q (judged p q ls)) .eligible

@@ -1,9 +1,10 @@
 -- DEMAND 3 where no lever is searched: a model that is off, a request that is stopped, an id that is selected; and rejections, which select
--- no id at any setting. Assumes nothing: ids may repeat.
+-- no id at any setting; by any rule of cost. Assumes nothing: ids may repeat.
 use Rattle.rules.proofs.Kit.{ℕ, _<_, _≡_, refl, sym, ap, subst, _∙_, Bool, true, false, false≢true, _⊎_, inl, inr, List, [], some, arith, ne-eqb, length}
-use Rattle.rules.specs.{Records.Listed, Records.listedOf, Refused.bankFaults, Numbers.isRejection, Decide.stoppedBy, Decide.decisionOf, Listing.firstListed}
-use Rattle.rules.specs.{Levers.Question, Levers.selects, Levers.decisionAt, Levers.wins, Levers.boundaryOf, Win.ifOn, Win.winSearch, Win.winFor, Win.winIn}
-use Rattle.rules.specs.{Win.whatWouldWinOf, declared.records.KernelInput.KernelInput, declared.records.PolicySnapshot.PolicySnapshot, Printed.entriesOf}
+use Rattle.rules.specs.{Records.Listed, Records.listedOf, Refused.bankFaults, Numbers.isRejection, Price.Cost, Price.costUnder, Decide.stoppedBy}
+use Rattle.rules.specs.{Decide.decisionBy, Decide.decisionOf, Listing.firstListed, Levers.Question, Levers.selects, Levers.decisionAt, Levers.wins}
+use Rattle.rules.specs.{Levers.boundaryOf, Win.ifOn, Win.winSearch, Win.winFor, Win.winBy, Win.whatWouldWinOf, declared.records.KernelInput.KernelInput}
+use Rattle.rules.specs.{declared.records.PolicySnapshot.PolicySnapshot, Printed.entriesOf}
 use Rattle.rules.proofs.Stopped.{stopped-rejects}
 use Rattle.demands.specs.Demand3.{question, Unselected, OffExact}
 use Rattle.demands.proofs.{Selected.rejection-selects-none, Selected.selects-chose, Selected.selected-chosen, Winning.answered-win}
@@ -25,41 +26,42 @@ selected-at-setting a lever v e = selects-chose (a .id) (decisionAt a lever v) e
 -- Demand 3. Where a limit stops the request, no setting selects any id
 pub stopped-at-setting : (a : Question) (lever v : ℕ) → 0 < stoppedBy (a .policy) (a .request) → wins a lever v ≡ false
 unfolding decisionAt
-stopped-at-setting a lever v h = rejected-at-setting a lever v (stopped-rejects (a .policy) (a .request) _ h)
+stopped-at-setting a lever v h = rejected-at-setting a lever v (stopped-rejects (a .costs) (a .policy) (a .request) _ h)
 
 -- ---- what would win, over any list
 
-module _ (p : PolicySnapshot) (q : KernelInput) (ls : List Listed) (id : ℕ) (l : Listed) (first : firstListed id ls ≡ some l) where
+module _ (cost : Cost) (p : PolicySnapshot) (q : KernelInput) (ls : List Listed) (id : ℕ) (l : Listed) (first : firstListed id ls ≡ some l) where
   -- Demand 3. Stopped by a request limit: no entry
-  pub stopped-empty : 0 < stoppedBy p q → entriesOf (winIn p q ls id) ≡ []
-  unfolding winIn winFor boundaryOf
+  pub stopped-empty : 0 < stoppedBy p q → entriesOf (winBy cost p q ls id) ≡ []
+  unfolding winBy winFor boundaryOf
   stopped-empty h = rw (first, ne-eqb (stoppedBy p q) 0 (λ e. omega arith))
 
   -- Demand 3. Selected already: no entry
-  pub selected-empty : selects id (decisionOf p q ls) ≡ true → entriesOf (winIn p q ls id) ≡ []
-  unfolding winIn winFor boundaryOf
-  selected-empty e = let z = selected-chosen p q ls id e .0 in rw (first, z, e)
+  pub selected-empty : selects id (decisionBy cost p q ls) ≡ true → entriesOf (winBy cost p q ls id) ≡ []
+  unfolding winBy winFor boundaryOf
+  selected-empty e = let z = selected-chosen cost p q ls id e .0 in rw (first, z, e)
 
-module _ (p : PolicySnapshot) (q : KernelInput) (ls : List Listed) (id : ℕ) (l : Listed) (u : Unselected p q ls id l) (off : l .model .enabled ≡ 0) where
-  off-used : entriesOf (winIn p q ls id) ≡ ifOn (wins (question p q ls id (l .model)) 5 1) .entries
+module _ (cost : Cost) (p : PolicySnapshot) (q : KernelInput) (ls : List Listed) (id : ℕ) (l : Listed) (u : Unselected cost p q ls id l)
+    (off : l .model .enabled ≡ 0) where
+  off-used : entriesOf (winBy cost p q ls id) ≡ ifOn (wins (question cost p q ls id (l .model)) 5 1) .entries
   unfolding winSearch
-  off-used = used-searched p q ls id l u ∙ rw off
+  off-used = used-searched cost p q ls id l u ∙ rw off
 
   -- Demand 3. SWITCHED OFF: enabled is listed exactly if switching it on selects the id
-  pub off-exact : OffExact (winIn p q ls id) (question p q ls id (l .model))
-  off-exact = go (wins (question p q ls id (l .model)) 5 1) refl off-used
+  pub off-exact : OffExact (winBy cost p q ls id) (question cost p q ls id (l .model))
+  off-exact = go (wins (question cost p q ls id (l .model)) 5 1) refl off-used
     where
-      go : (t : Bool) → wins (question p q ls id (l .model)) 5 1 ≡ t → entriesOf (winIn p q ls id) ≡ ifOn t .entries
-          → OffExact (winIn p q ls id) (question p q ls id (l .model))
+      go : (t : Bool) → wins (question cost p q ls id (l .model)) 5 1 ≡ t → entriesOf (winBy cost p q ls id) ≡ ifOn t .entries
+          → OffExact (winBy cost p q ls id) (question cost p q ls id (l .model))
       go true w k =
           record {
-            answered = no-refusal p q ls id l u;
+            answered = no-refusal cost p q ls id l u;
             given = (λ s. w, λ s. k);
             missing = (λ s. absurd (omega (arith, ap length (sym k ∙ s))), λ s. absurd (false≢true (sym s ∙ w)));
           }
       go false w k =
           record {
-            answered = no-refusal p q ls id l u;
+            answered = no-refusal cost p q ls id l u;
             given = (λ s. absurd (omega (arith, ap length (sym k ∙ s))), λ s. absurd (false≢true (sym w ∙ s)));
             missing = (λ s. w, λ s. k);
           }
@@ -71,12 +73,15 @@ pub unsearched-empty : (p : PolicySnapshot) (q : KernelInput) (bank : List ℕ) 
     → firstListed id (listedOf bank) ≡ some l
     → (0 < stoppedBy p q) ⊎ (selects id (decisionOf p q (listedOf bank)) ≡ true)
     → entriesOf (whatWouldWinOf p q bank id) ≡ []
-unsearched-empty p q bank id l whole first (inl h) = ap entriesOf (answered-win p q bank id whole) ∙ stopped-empty p q (listedOf bank) id l first h
-unsearched-empty p q bank id l whole first (inr e) = ap entriesOf (answered-win p q bank id whole) ∙ selected-empty p q (listedOf bank) id l first e
+unsearched-empty p q bank id l whole first (inl h) =
+    ap entriesOf (answered-win p q bank id whole) ∙ stopped-empty (costUnder p) p q (listedOf bank) id l first h
+unsearched-empty p q bank id l whole first (inr e) =
+    ap entriesOf (answered-win p q bank id whole) ∙ selected-empty (costUnder p) p q (listedOf bank) id l first e
 
 -- Demand 3. SWITCHED OFF: enabled is listed exactly if switching it on selects the id
 pub switched-off-exact : (p : PolicySnapshot) (q : KernelInput) (bank : List ℕ) (id : ℕ) (l : Listed) → bankFaults bank ≡ []
-    → Unselected p q (listedOf bank) id l → l .model .enabled ≡ 0 → OffExact (whatWouldWinOf p q bank id) (question p q (listedOf bank) id (l .model))
+    → Unselected (costUnder p) p q (listedOf bank) id l → l .model .enabled ≡ 0
+    → OffExact (whatWouldWinOf p q bank id) (question (costUnder p) p q (listedOf bank) id (l .model))
 switched-off-exact p q bank id l whole u off =
-    subst (λ answer. OffExact answer (question p q (listedOf bank) id (l .model))) (sym (answered-win p q bank id whole))
-    (off-exact p q (listedOf bank) id l u off)
+    subst (λ answer. OffExact answer (question (costUnder p) p q (listedOf bank) id (l .model))) (sym (answered-win p q bank id whole))
+    (off-exact (costUnder p) p q (listedOf bank) id l u off)

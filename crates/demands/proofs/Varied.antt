@@ -1,11 +1,14 @@
--- A list with a stand-in for the first listed record with an id; and so, with unique ids, a lever's settings turn once. Assumes nothing.
-use Rattle.rules.proofs.Kit.{ℕ, _≡_, refl, sym, ap, subst, _∙_, Bool, true, false, cond, List, [], _∷_, _++_, some, Option·some-injective, Option·none-ne-some}
+-- A list with a stand-in for the first listed record with an id; and so, with unique ids, a lever's settings turn once. Assumed for that: the
+-- cost doesn't fall where prices rise.
+use Rattle.rules.proofs.Kit.{ℕ, _≡_, refl, sym, ap, subst, _∙_, Bool, true, false, cond, List, [], _∷_, _++_, some, Option·some-injective}
+use Rattle.rules.proofs.Kit.{Option·none-ne-some}
 use Rattle.rules.proofs.Kit.{eqb-true, eqb-false, eqb}
-use Rattle.rules.specs.{Choice.equal, Order.Each, Order.Pairs, Records.Listed, Records.listed, Decide.decisionOf, Listing.firstListed, Halving.Side}
+use Rattle.rules.specs.{Choice.equal, Order.Each, Order.Pairs, Records.Listed, Records.listed, Price.Cost, Decide.decisionBy, Listing.firstListed}
+use Rattle.rules.specs.{Halving.Side}
 use Rattle.rules.specs.{Levers.leverAt, Levers.selects, Levers.varied, Levers.wins, Levers.decisionAt, declared.records.KernelModel.KernelModel}
 use Rattle.rules.specs.{declared.records.KernelInput.KernelInput, declared.records.PolicySnapshot.PolicySnapshot}
-use Rattle.demands.specs.{Exact.Range, Exact.AtOrBetter, Exact.TurnsOnce, Standing.Favours, Standing.Ordered, Standing.Lacks, Standing.UniqueIds}
-use Rattle.demands.specs.{Demand3.question}
+use Rattle.demands.specs.{Exact.Range, Exact.AtOrBetter, Exact.TurnsOnce, Standing.RisesWithPrices, Standing.Favours, Standing.Ordered, Standing.Lacks}
+use Rattle.demands.specs.{Standing.UniqueIds, Demand3.question}
 use Rattle.rules.proofs.Sorted.{each-so}
 use Rattle.demands.proofs.{Favours.as-good, Monotone.selection-monotone}
 
@@ -59,18 +62,9 @@ lacks-after id ls l u s =
 
 -- ---- moving a lever
 
-module _ (p : PolicySnapshot) (q : KernelInput) (ls : List Listed) (id : ℕ) (l : Listed) (unique : UniqueIds ls) (first : firstListed id ls ≡ some l) where
-  -- Demand 3. With unique ids, where an id is selected with x for its model, it is selected with any y that is nowhere less favourable
-  pub varied-monotone : (x y : KernelModel) → x .«model_id» ≡ id → Favours y x → selects id (decisionOf p q (varied id x ls)) ≡ true
-      → selects id (decisionOf p q (varied id y ls)) ≡ true
-  varied-monotone x y i f e =
-      let s = split id ls l first in
-      rw (s .standIn y)
-      (selection-monotone p q (s .before) (s .after) (l .place) x y (as-good p q y x f) id i (s .lacks) (lacks-after id ls l unique s)
-      (rw (s .standIn x) at e))
-
+module _ (ls : List Listed) (id : ℕ) (l : Listed) (first : firstListed id ls ≡ some l) where
   -- the list itself is the one with the record's own model
-  pub unvaried : varied id (l .model) ls ≡ ls
+  unvaried : varied id (l .model) ls ≡ ls
   unvaried = let s = split id ls l first in s .standIn (l .model) ∙ sym (s .whole)
 
   -- a lever leaves the id
@@ -78,17 +72,29 @@ module _ (p : PolicySnapshot) (q : KernelInput) (ls : List Listed) (id : ℕ) (l
   unfolding leverAt
   own-id lever v = split id ls l first .has
 
-  -- Demand 3. So a lever whose settings are ordered turns once: where a setting selects the id, every more favourable one does
-  pub selects-on : (lever : ℕ) (side : Side) → Ordered lever side → (u v : ℕ) → AtOrBetter side u v → wins (question p q ls id (l .model)) lever u ≡ true
-      → wins (question p q ls id (l .model)) lever v ≡ true
-  unfolding wins decisionAt
-  selects-on lever side o u v h e = varied-monotone (leverAt lever u (l .model)) (leverAt lever v (l .model)) (own-id lever u) (o (l .model) u v h) e
+module _ (cost : Cost) (rises : RisesWithPrices cost) (p : PolicySnapshot) (q : KernelInput) (ls : List Listed) (id : ℕ) (l : Listed)
+    (unique : UniqueIds ls) (first : firstListed id ls ≡ some l) where
+  -- Demand 3. With unique ids, where an id is selected with x for its model, it is selected with any y that is nowhere less favourable
+  pub varied-monotone : (x y : KernelModel) → x .«model_id» ≡ id → Favours y x → selects id (decisionBy cost p q (varied id x ls)) ≡ true
+      → selects id (decisionBy cost p q (varied id y ls)) ≡ true
+  varied-monotone x y i f e =
+      let s = split id ls l first in
+      rw (s .standIn y)
+      (selection-monotone cost p q (s .before) (s .after) (l .place) x y (as-good cost rises p q y x f) id i (s .lacks) (lacks-after id ls l unique s)
+      (rw (s .standIn x) at e))
 
-  pub turns-once : (lever : ℕ) (side : Side) → Ordered lever side → (r : Range) → TurnsOnce side (wins (question p q ls id (l .model)) lever) r
+  -- Demand 3. So a lever whose settings are ordered turns once: where a setting selects the id, every more favourable one does
+  pub selects-on : (lever : ℕ) (side : Side) → Ordered lever side → (u v : ℕ) → AtOrBetter side u v → wins (question cost p q ls id (l .model)) lever u ≡ true
+      → wins (question cost p q ls id (l .model)) lever v ≡ true
+  unfolding wins decisionAt
+  selects-on lever side o u v h e =
+      varied-monotone (leverAt lever u (l .model)) (leverAt lever v (l .model)) (own-id ls id l first lever u) (o (l .model) u v h) e
+
+  pub turns-once : (lever : ℕ) (side : Side) → Ordered lever side → (r : Range) → TurnsOnce side (wins (question cost p q ls id (l .model)) lever) r
   turns-once lever side o r u v _ _ h e = selects-on lever side o u v h e
 
   -- and where the id is selected as the list stands, it is selected at a setting that is nowhere less favourable
-  pub selected-today : selects id (decisionOf p q ls) ≡ true → (lever v : ℕ) → Favours (leverAt lever v (l .model)) (l .model)
-      → wins (question p q ls id (l .model)) lever v ≡ true
+  pub selected-today : selects id (decisionBy cost p q ls) ≡ true → (lever v : ℕ) → Favours (leverAt lever v (l .model)) (l .model)
+      → wins (question cost p q ls id (l .model)) lever v ≡ true
   unfolding wins decisionAt
-  selected-today e lever v f = varied-monotone (l .model) (leverAt lever v (l .model)) (split id ls l first .has) f (rw unvaried e)
+  selected-today e lever v f = varied-monotone (l .model) (leverAt lever v (l .model)) (split id ls l first .has) f (rw (unvaried ls id l first) e)

@@ -1,12 +1,13 @@
--- DEMAND 3, first half: what `what_would_win` answers is exact. Assumed: unique ids.
+-- DEMAND 3, first half: what `what_would_win` answers is exact. Assumed: unique ids; and over any list, a cost that doesn't fall where prices rise.
 use Rattle.rules.proofs.Kit.{ℕ, _≡_, refl, sym, ap, subst, _∙_, false, List, [], ne-eqb}
-use Rattle.rules.specs.{Limits.maxBps, Limits.ppm, Records.Listed, Records.listedOf, Refused.noFault, Refused.bankFaults, Decide.decisionOf, Halving.Lowest}
-use Rattle.rules.specs.{Halving.Highest, Halving.searchOf, Levers.wins, Levers.boundaryOf, Win.winLevers, Win.winSearch, Win.winFor, Win.winIn}
-use Rattle.rules.specs.{Win.whatWouldWinOf, declared.records.KernelInput.KernelInput, declared.records.PolicySnapshot.PolicySnapshot, Printed.entriesOf}
-use Rattle.demands.specs.{Standing.UniqueIds, Demand3.winQuality, Demand3.winLatency, Demand3.winPrice, Demand3.winCeiling, Demand3.question}
-use Rattle.demands.specs.{Demand3.Unselected, Demand3.SwitchedOn, Demand3.WinExact}
+use Rattle.rules.specs.{Limits.maxBps, Limits.ppm, Records.Listed, Records.listedOf, Refused.noFault, Refused.bankFaults, Price.Cost, Price.costUnder}
+use Rattle.rules.specs.{Decide.decisionBy, Halving.Lowest, Halving.Highest, Halving.searchOf, Levers.wins, Levers.boundaryOf, Win.winLevers, Win.winSearch}
+use Rattle.rules.specs.{Win.winFor, Win.winBy, Win.winIn, Win.whatWouldWinOf, declared.records.KernelInput.KernelInput}
+use Rattle.rules.specs.{declared.records.PolicySnapshot.PolicySnapshot, Printed.entriesOf}
+use Rattle.demands.specs.{Standing.RisesWithPrices, Standing.UniqueIds, Demand3.winQuality, Demand3.winLatency, Demand3.winPrice, Demand3.winCeiling}
+use Rattle.demands.specs.{Demand3.question, Demand3.Unselected, Demand3.SwitchedOn, Demand3.WinExact}
 use Rattle.demands.proofs.{Favours.quality-ordered, Favours.latency-ordered, Favours.price-ordered, Favours.ceiling-ordered, Varied.turns-once}
-use Rattle.demands.proofs.{Entries.used-sought, Entries.not-refused, Entries.Answers, Entries.answers, Entries.won}
+use Rattle.demands.proofs.{Rounding.cost-rises, Entries.used-sought, Entries.not-refused, Entries.Answers, Entries.answers, Entries.won}
 
 -- a bank without faults is answered over its records
 pub answered-win : (p : PolicySnapshot) (q : KernelInput) (bank : List ℕ) (id : ℕ) → bankFaults bank ≡ []
@@ -14,34 +15,34 @@ pub answered-win : (p : PolicySnapshot) (q : KernelInput) (bank : List ℕ) (id 
 unfolding whatWouldWinOf
 answered-win p q bank id e = rw e
 
-module _ (p : PolicySnapshot) (q : KernelInput) (ls : List Listed) (id : ℕ) (l : Listed) (u : Unselected p q ls id l) where
+module _ (cost : Cost) (p : PolicySnapshot) (q : KernelInput) (ls : List Listed) (id : ℕ) (l : Listed) (u : Unselected cost p q ls id l) where
   -- neither stopped nor selected: the search is made
-  pub searched : winIn p q ls id ≡ boundaryOf id (decisionOf p q ls) false (winSearch (question p q ls id (l .model)))
-  unfolding winIn winFor
+  pub searched : winBy cost p q ls id ≡ boundaryOf id (decisionBy cost p q ls) false (winSearch (question cost p q ls id (l .model)))
+  unfolding winBy winFor
   searched = rw (u .listed, u .goesOn, u .notSelected)
 
-  pub used-searched : entriesOf (winIn p q ls id) ≡ winSearch (question p q ls id (l .model)) .entries
-  used-searched = ap entriesOf searched ∙ used-sought id (decisionOf p q ls) false (winSearch (question p q ls id (l .model)))
+  pub used-searched : entriesOf (winBy cost p q ls id) ≡ winSearch (question cost p q ls id (l .model)) .entries
+  used-searched = ap entriesOf searched ∙ used-sought id (decisionBy cost p q ls) false (winSearch (question cost p q ls id (l .model)))
 
-  pub no-refusal : winIn p q ls id .refusal ≡ noFault
-  no-refusal = rw searched (not-refused id (decisionOf p q ls) false (winSearch (question p q ls id (l .model))))
+  pub no-refusal : winBy cost p q ls id .refusal ≡ noFault
+  no-refusal = rw searched (not-refused id (decisionBy cost p q ls) false (winSearch (question cost p q ls id (l .model))))
 
   -- switched on: four levers, and what they found
   found-to-win : SwitchedOn (l .model)
       → let a =
-      question p q ls id (l .model) in Answers (winIn p q ls id) a (searchOf Lowest (wins a 1) (l .model .«quality_bps») maxBps)
+      question cost p q ls id (l .model) in Answers (winBy cost p q ls id) a (searchOf Lowest (wins a 1) (l .model .«quality_bps») maxBps)
       (searchOf Highest (wins a 2) 0 (l .model .«p95_latency_ms»)) (searchOf Highest (wins a 3) 0 ppm)
       (searchOf Lowest (wins a 4) (l .model .«risk_ceiling_bps») maxBps)
   unfolding winSearch winLevers
   found-to-win h =
-      answers (winIn p q ls id) (question p q ls id (l .model)) _ _ _ _
+      answers (winBy cost p q ls id) (question cost p q ls id (l .model)) _ _ _ _
       (used-searched ∙ rw (ne-eqb (l .model .enabled) 0 h))
 
-  -- Demand 3, first half. WHAT WOULD WIN IS EXACT, over any list with unique ids
-  pub win-exact : UniqueIds ls → SwitchedOn (l .model) → WinExact (winIn p q ls id) (question p q ls id (l .model))
-  win-exact unique h =
+  -- Demand 3, first half. WHAT WOULD WIN IS EXACT, over any list with unique ids and by any cost that doesn't fall where prices rise
+  pub win-exact : RisesWithPrices cost → UniqueIds ls → SwitchedOn (l .model) → WinExact (winBy cost p q ls id) (question cost p q ls id (l .model))
+  win-exact rises unique h =
       let f = found-to-win h in
-      let turns = turns-once p q ls id l unique (u .listed) in
+      let turns = turns-once cost rises p q ls id l unique (u .listed) in
       record {
         answered = no-refusal;
         quality = won (λ b. refl) (turns 1 Lowest quality-ordered (winQuality (l .model))) (f .quality);
@@ -51,10 +52,11 @@ module _ (p : PolicySnapshot) (q : KernelInput) (ls : List Listed) (id : ℕ) (l
         whole = f .whole;
       }
 
--- Demand 3, first half. WHAT WOULD WIN IS EXACT, of a bank with unique ids: for a listed, switched-on model neither selected nor stopped by a
--- request limit
+-- Demand 3, first half. WHAT WOULD WIN IS EXACT, of a bank with unique ids, however the policy rounds: for a listed, switched-on model neither
+-- selected nor stopped by a request limit
 pub what-would-win-exact : (p : PolicySnapshot) (q : KernelInput) (bank : List ℕ) (id : ℕ) (l : Listed) → bankFaults bank ≡ [] → UniqueIds (listedOf bank)
-    → Unselected p q (listedOf bank) id l → SwitchedOn (l .model) → WinExact (whatWouldWinOf p q bank id) (question p q (listedOf bank) id (l .model))
+    → Unselected (costUnder p) p q (listedOf bank) id l → SwitchedOn (l .model)
+    → WinExact (whatWouldWinOf p q bank id) (question (costUnder p) p q (listedOf bank) id (l .model))
 what-would-win-exact p q bank id l whole unique u on =
-    subst (λ answer. WinExact answer (question p q (listedOf bank) id (l .model))) (sym (answered-win p q bank id whole))
-    (win-exact p q (listedOf bank) id l u unique on)
+    subst (λ answer. WinExact answer (question (costUnder p) p q (listedOf bank) id (l .model))) (sym (answered-win p q bank id whole))
+    (win-exact (costUnder p) p q (listedOf bank) id l u (cost-rises (p .rounding)) unique on)

@@ -1,4 +1,5 @@
--- DEMAND 3 in words: the searched settings, and what it is for the answers of `what_would_win` and `decision_margin` to be exact.
+-- DEMAND 3 in words: the searched settings, and what it is for the answers of `what_would_win` and `decision_margin` to be exact, by any rule of
+-- cost; the calls' own is that of their policy's rounding, `costUnder p`.
 use Prim.Native.Nat.{ℕ, _+_, _-_, _^_, _≤_, _<_}
 use mathlib.Core.Path.{_≡_}
 use mathlib.Core.Bool.{Bool, true, false, cond}
@@ -10,7 +11,8 @@ use Rattle.rules.specs.Order.{Each}
 use Rattle.rules.specs.Records.{Listed, listedOf}
 use Rattle.rules.specs.Refused.{noFault, bankFaults, unless}
 use Rattle.rules.specs.Numbers.{isRejection, Entry, Boundary}
-use Rattle.rules.specs.Decide.{stoppedBy, decisionOf}
+use Rattle.rules.specs.Price.{Cost, costUnder}
+use Rattle.rules.specs.Decide.{stoppedBy, decisionBy}
 use Rattle.rules.specs.Listing.{firstListed}
 use Rattle.rules.specs.Halving.{Side, Lowest, Highest, searchOf, searchAfterFarEnd, passesOf}
 use Rattle.rules.specs.Printed.{entriesOf}
@@ -53,9 +55,9 @@ marginCeiling m = range 0 (m .«risk_ceiling_bps»)
 
 -- ---- an answer's entries
 
--- What is asked about: a policy, a request, a list, an id, and the model of the first listed record with that id
-abbrev pub question : PolicySnapshot → KernelInput → List Listed → ℕ → KernelModel → Question
-question p q ls id m = record { policy = p; request = q; list = ls; id = id; model = m }
+-- What is asked about: a rule of cost, a policy, a request, a list, an id, and the model of the first listed record with that id
+abbrev pub question : Cost → PolicySnapshot → KernelInput → List Listed → ℕ → KernelModel → Question
+question costs p q ls id m = record { costs = costs; policy = p; request = q; list = ls; id = id; model = m }
 
 -- The entry of each lever where its boundary is b: number, setting of today, boundary; of the price also the decision's cost there
 abbrev pub qualityEntry : Question → ℕ → Entry
@@ -88,10 +90,10 @@ HasBoundary es entryAt = (b : ℕ) × (es ≡ entryAt b ∷ [])
 -- ---- first half: what would win
 
 -- Of whom it speaks: a listed model neither selected nor stopped by a request limit; l is the first listed record with the id
-pub record Unselected (p : PolicySnapshot) (q : KernelInput) (ls : List Listed) (id : ℕ) (l : Listed) : Type 0 where
+pub record Unselected (cost : Cost) (p : PolicySnapshot) (q : KernelInput) (ls : List Listed) (id : ℕ) (l : Listed) : Type 0 where
   pub listed : firstListed id ls ≡ some l
   pub goesOn : stoppedBy p q ≡ 0
-  pub notSelected : selects id (decisionOf p q ls) ≡ false
+  pub notSelected : selects id (decisionBy cost p q ls) ≡ false
 
 -- Switched on: enabled is anything but 0
 abbrev pub SwitchedOn : KernelModel → Type 0
@@ -143,11 +145,11 @@ pub record MarginExact (answer : Boundary) (a : Question) : Type 0 where
   pub whole : entriesOf answer ≡ entriesFor 1 answer ++ (entriesFor 2 answer ++ (entriesFor 3 answer ++ entriesFor 4 answer))
 
 -- The record that a margin varies is the chosen one: the first listed with the chosen id, at the chosen place; and over it the answer is exact
-pub record MarginOfChoice (p : PolicySnapshot) (q : KernelInput) (ls : List Listed) (answer : Boundary) : Type 0 where
+pub record MarginOfChoice (cost : Cost) (p : PolicySnapshot) (q : KernelInput) (ls : List Listed) (answer : Boundary) : Type 0 where
   pub varied : Listed
-  pub first : firstListed (decisionOf p q ls .model) ls ≡ some varied
-  pub place : varied .place ≡ decisionOf p q ls .place
-  pub exact : MarginExact answer (question p q ls (decisionOf p q ls .model) (varied .model))
+  pub first : firstListed (decisionBy cost p q ls .model) ls ≡ some varied
+  pub place : varied .place ≡ decisionBy cost p q ls .place
+  pub exact : MarginExact answer (question cost p q ls (decisionBy cost p q ls .model) (varied .model))
 
 -- ---- passes
 
@@ -185,30 +187,30 @@ marginPasses a =
 unfoldable pub passesToWin : Question → ℕ
 passesToWin a =
     equal (stoppedBy (a .policy) (a .request)) 0
-    (cond (selects (a .id) (decisionOf (a .policy) (a .request) (a .list))) 1
+    (cond (selects (a .id) (decisionBy (a .costs) (a .policy) (a .request) (a .list))) 1
     (equal (a .model .enabled) 0 2 (winPasses a)))
     1
 
 -- A refusal carries no count: neither an id that isn't listed nor a bank with a fault of its length has a pass
-abbrev pub passesIfListed : (Question → ℕ) → PolicySnapshot → KernelInput → List Listed → ℕ → Option Listed → ℕ
-passesIfListed passes p q ls id none = 0
-passesIfListed passes p q ls id (some l) = passes (question p q ls id (l .model))
+abbrev pub passesIfListed : (Question → ℕ) → Cost → PolicySnapshot → KernelInput → List Listed → ℕ → Option Listed → ℕ
+passesIfListed passes cost p q ls id none = 0
+passesIfListed passes cost p q ls id (some l) = passes (question cost p q ls id (l .model))
 
 -- The passes that `what_would_win` owes, in every case: over a list, and over a bank
-unfoldable pub passesToWinIn : PolicySnapshot → KernelInput → List Listed → ℕ → ℕ
-passesToWinIn p q ls id = passesIfListed passesToWin p q ls id (firstListed id ls)
+unfoldable pub passesToWinIn : Cost → PolicySnapshot → KernelInput → List Listed → ℕ → ℕ
+passesToWinIn cost p q ls id = passesIfListed passesToWin cost p q ls id (firstListed id ls)
 
 unfoldable pub passesToWinOf : PolicySnapshot → KernelInput → List ℕ → ℕ → ℕ
-passesToWinOf p q bank id = unless (bankFaults bank) (λ f. 0) (passesToWinIn p q (listedOf bank) id)
+passesToWinOf p q bank id = unless (bankFaults bank) (λ f. 0) (passesToWinIn (costUnder p) p q (listedOf bank) id)
 
 -- And those that `decision_margin` owes: none where the decision is a rejection, which is refused too
-unfoldable pub passesToKeepIn : PolicySnapshot → KernelInput → List Listed → ℕ
-passesToKeepIn p q ls =
-    let d = decisionOf p q ls in
-    cond (isRejection d) 0 (passesIfListed marginPasses p q ls (d .model) (firstListed (d .model) ls))
+unfoldable pub passesToKeepIn : Cost → PolicySnapshot → KernelInput → List Listed → ℕ
+passesToKeepIn cost p q ls =
+    let d = decisionBy cost p q ls in
+    cond (isRejection d) 0 (passesIfListed marginPasses cost p q ls (d .model) (firstListed (d .model) ls))
 
 unfoldable pub passesToKeepOf : PolicySnapshot → KernelInput → List ℕ → ℕ
-passesToKeepOf p q bank = unless (bankFaults bank) (λ f. 0) (passesToKeepIn p q (listedOf bank))
+passesToKeepOf p q bank = unless (bankFaults bank) (λ f. 0) (passesToKeepIn (costUnder p) p q (listedOf bank))
 
 -- The most that a search for what would win takes; that a margin takes; and that one takes where quality and ceiling are within 10,000
 abbrev pub mostToWin : ℕ

@@ -1,5 +1,5 @@
 -- What the theorems speak of beside the rules: the Rust's arithmetic, the widths of its fields, its fast and slow paths, its way to the
--- first two of the ranking, and exact boundaries.
+-- first two of the ranking, exact boundaries, and the two costs that a policy can name.
 pub mod Machine
 pub mod Widths
 pub mod Paths
@@ -8,4 +8,5 @@ pub mod Ranked
 pub mod Keeping
 pub mod Exact
 pub mod Standing
+pub mod Rounding
 pub mod Demand3

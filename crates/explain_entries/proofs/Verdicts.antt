@@ -1,7 +1,8 @@
 -- WHAT A RECORD IS TOLD IS WHAT THE SCAN USED: the scan's verdict, told with its numbers, is the rules' verdict. Assumes nothing.
-use Rattle.rules.proofs.Kit.{_^_, _≡_, refl, sym, ap, _∙_, Bool, true, false, cond, List, [], _∷_, map, lt-ltb, le-ltb, leb-true, leb-false, ltb, leb, pos, leZ}
-use Rattle.rules.specs.{Choice.below, Records.Listed, Numbers.Verdict, Gates.gateOf, Price.costOf, Utility.utilityOf, Verdict.Judged, Verdict.judged}
-use Rattle.rules.specs.{Verdict.withTerms, Verdict.byUtility, Verdict.verdictOf, declared.records.KernelModel.KernelModel}
+use Rattle.rules.proofs.Kit.{ℕ, _^_, _≡_, refl, sym, ap, _∙_, Bool, true, false, cond, List, [], _∷_, map, lt-ltb, le-ltb, leb-true, leb-false, ltb, leb, pos}
+use Rattle.rules.proofs.Kit.{leZ}
+use Rattle.rules.specs.{Choice.below, Records.Listed, Numbers.Verdict, Gates.gateOf, Price.costUnder, Utility.utilityOf, Verdict.Judged, Verdict.judged}
+use Rattle.rules.specs.{Verdict.withTerms, Verdict.byUtility, Verdict.verdictCosting, Verdict.verdictOf, declared.records.KernelModel.KernelModel}
 use Rattle.rules.specs.{declared.records.KernelInput.KernelInput, declared.records.PolicySnapshot.PolicySnapshot}
 use Rattle.pricing.specs.{Pricing.pricingOf, declared.Pricing.Pricing}
 use Rattle.pricing_terms.specs.{Terms.termsWith, Terms.utilityTermsOf, declared.ScoredTerms.ScoredTerms}
@@ -16,28 +17,29 @@ module _ (p : PolicySnapshot) (q : KernelInput) (m : KernelModel) where
   either true x y u v h k = h
   either false x y u v h k = k
 
-  module _ (t : ScoredTerms) (ruled : Ruled p m q t) where
+  module _ (cost : ℕ) (t : ScoredTerms) (ruled : Ruled p m q cost t) where
     -- by the test of the score, which is that of the utility
-    scanned-terms : (b : Bool) → leb (t .score) (2 ^ 63) ≡ b → scanned q m (byScore t) ≡ withTerms p q m (cond b 3 4)
+    scanned-terms : (b : Bool) → leb (t .score) (2 ^ 63) ≡ b → scanned q m (byScore t) ≡ withTerms p q m cost (cond b 3 4)
     unfolding scanned byScore below utilityTermsOf
     scanned-terms true e =
         rw (le-ltb (2 ^ 63) (t .score) (leb-true _ _ e), ruled .quality, ruled .risk, ruled .cost, ruled .latency, ruled .utility)
     scanned-terms false e =
         rw (lt-ltb (2 ^ 63) (t .score) (leb-false _ _ e), ruled .quality, ruled .risk, ruled .cost, ruled .latency, ruled .utility)
 
-    scanned-priced : scanned q m (byScore t) ≡ byUtility p q m
+    scanned-priced : scanned q m (byScore t) ≡ byUtility p q m cost
     unfolding byUtility
     scanned-priced =
-        let e : leZ (utilityOf p m q) (pos 0) ≡ leb (t .score) (2 ^ 63) = ap (λ u. leZ u (pos 0)) (sym (ruled .utility)) ∙ score-positive (t .score) in
+        let e : leZ (utilityOf p m q cost) (pos 0) ≡ leb (t .score) (2 ^ 63) = ap (λ u. leZ u (pos 0)) (sym (ruled .utility)) ∙ score-positive (t .score) in
         rw e (scanned-terms (leb (t .score) (2 ^ 63)) refl)
 
   -- ONE RECORD: the scan's verdict tells what the rules tell, the gate, what it compared, and every term
   pub verdict-scanned : scanned q m (verdictIn (pricingOf p q) q m) ≡ verdictOf p q m
-  unfolding scanned verdictIn verdictOf below
+  unfolding scanned verdictIn verdictCosting pricingOf below
   verdict-scanned =
-      let t = termsWith (pricingOf p q) m (costOf m q) in
+      let cost = costUnder p m q in
+      let t = termsWith (pricingOf p q) m cost in
       either (ltb 0 (gateOf m q)) (Rejected (gateOf m q)) _ _ _ refl
-      (either (ltb (q .«budget_limit_microunits») (costOf m q)) (OverBudget (costOf m q)) (byScore t) _ _ refl (scanned-priced t (terms-rule p m q)))
+      (either (ltb (q .«budget_limit_microunits») cost) (OverBudget cost) (byScore t) _ _ refl (scanned-priced cost t (terms-rule p m q cost)))
 
 -- A record with what a pricing tells of it
 abbrev pub tellIn : Pricing → KernelInput → Listed → Judged

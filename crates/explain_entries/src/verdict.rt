@@ -53,7 +53,8 @@ pub fn candidate_verdict(
     if 0 < gate {
         return gate_verdict(gate, gate_detail(model, input, gate));
     }
-    let cost = pricing::cost_apart(model, input);
+    let rounding = pricing.rounding;
+    let cost = pricing::cost_alone(rounding, model, input);
     if input.budget_limit_microunits < cost {
         return CandidateVerdict::OverBudget {
             cost_microunits: cost,

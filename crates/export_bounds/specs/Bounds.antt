@@ -21,7 +21,7 @@ boundsOr (some f) b = refused f
 unfoldable pub boundsIn : Boundary → Answer Boundary
 boundsIn b = boundsOr (b .refusal) b
 
--- 22, 1, 2, 4, 5
+-- 22, 23, 1, 2, 4, 5
 abbrev pub winCall : Lent → ℕ → List ℕ → ℕ × List ℕ
 winCall l id out =
     handed
@@ -30,7 +30,7 @@ winCall l id out =
     (boundsIn (whatWouldWinOf (policyOf (l .policy)) (inputOf (l .request)) (l .bank) id))
     out
 
--- 22, 1, 2, 4, 6
+-- 22, 23, 1, 2, 4, 6
 abbrev pub marginCall : Lent → List ℕ → ℕ × List ℕ
 marginCall l out =
     handed

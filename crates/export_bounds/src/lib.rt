@@ -35,7 +35,7 @@ fn bounds_handed(answer: Boundaries, out: &mut [u8]) -> u64
     }
 }
 
-// The levers that would make a model selected. Refused: 22, 1, 2, 4, 5.
+// The levers that would make a model selected. Refused: 22, 23, 1, 2, 4, 5.
 pub fn win_delivered(policy: &[u8], request: &[u8], bank: &[u8], id: u32, out: &mut [u8]) -> u64
     ensures { λ r. ⌜ (r, now (out .exit)) ≡ winCall (lent (now (policy .entry)) (now (request .entry)) (now (bank .entry))) id (now (out .entry)) ⌝ }
 {
@@ -49,7 +49,7 @@ pub fn win_delivered(policy: &[u8], request: &[u8], bank: &[u8], id: u32, out: &
     )
 }
 
-// How far the levers of the selected model can move. Refused: 22, 1, 2, 4, 6.
+// How far the levers of the selected model can move. Refused: 22, 23, 1, 2, 4, 6.
 pub fn margin_delivered(policy: &[u8], request: &[u8], bank: &[u8], out: &mut [u8]) -> u64
     ensures { λ r. ⌜ (r, now (out .exit)) ≡ marginCall (lent (now (policy .entry)) (now (request .entry)) (now (bank .entry))) (now (out .entry)) ⌝ }
 {

@@ -15,17 +15,17 @@ use Rattle.export_checks.specs.Checks.{Lent, callFaults, checkedFaults, handed}
 abbrev pub prescribed : Lent → DecisionAndTrace
 prescribed l = tracedOf (policyOf (l .policy)) (inputOf (l .request)) (listedOf (l .bank))
 
--- 22, 1, 2, 4
+-- 22, 23, 1, 2, 4
 abbrev pub prescribeCall : Lent → List ℕ → ℕ × List ℕ
 prescribeCall l out = handed decisionBytes (callFaults l decisionSize (length out)) (answered (prescribed l)) out
 
--- 22, 1, 2, 4, 3
+-- 22, 23, 1, 2, 4, 3
 abbrev pub prescribeCheckedCall : Lent → List ℕ → ℕ × List ℕ
 prescribeCheckedCall l out = handed decisionBytes (checkedFaults l decisionSize (length out)) (answered (prescribed l)) out
 
 -- ---- `volankizo_explain`
 
--- 22, 1, 2, 4 for the decision's room, 4 for the list's: word and buffer, and the list
+-- 22, 23, 1, 2, 4 for the decision's room, 4 for the list's: word and buffer, and the list
 abbrev pub explainCall : Lent → List ℕ → List ℕ → (ℕ × List ℕ) × List ℕ
 explainCall l list out =
     let p = policyOf (l .policy) in

@@ -38,7 +38,7 @@ fn traced_handed(traced: Traced, out: &mut [u8]) -> u64
     }
 }
 
-// The decision with its counts. Refused: 22, 1, 2, 4.
+// The decision with its counts. Refused: 22, 23, 1, 2, 4.
 pub fn prescribe_delivered(policy: &[u8], request: &[u8], bank: &[u8], out: &mut [u8]) -> u64
     ensures { λ r. ⌜ (r, now (out .exit)) ≡ prescribeCall (lent (now (policy .entry)) (now (request .entry)) (now (bank .entry))) (now (out .entry)) ⌝ }
 {
@@ -49,7 +49,7 @@ pub fn prescribe_delivered(policy: &[u8], request: &[u8], bank: &[u8], out: &mut
     traced_handed(traced_lent(policy, request, bank), out)
 }
 
-// The same, after the request check. Refused: 22, 1, 2, 4, 3.
+// The same, after the request check. Refused: 22, 23, 1, 2, 4, 3.
 pub fn prescribe_checked_delivered(
     policy: &[u8],
     request: &[u8],
@@ -79,7 +79,7 @@ fn decision_handed(prescribed: Prescribed, out: &mut [u8]) -> u64
     }
 }
 
-// The decision, with what every record is told in the list. Refused: 22, 1, 2, 4 for the decision's room, 4 for the list's.
+// The decision, with what every record is told in the list. Refused: 22, 23, 1, 2, 4 for the decision's room, 4 for the list's.
 pub fn explain_delivered(
     policy: &[u8],
     request: &[u8],

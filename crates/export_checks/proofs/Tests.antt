@@ -1,8 +1,10 @@
 -- What tests that hand nothing back tell: the lengths, the bank, the room. Assumes nothing.
 use Rattle.rules.proofs.Kit.{ℕ, _<_, _≤_, _≡_, List, [], _∷_, _++_, arith, eq-eqb, ne-eqb, lt-ltb, length}
-use Rattle.rules.specs.{Limits.policyBytes, Limits.requestBytes, Limits.maxCatalogModels, Records.recordsIn, Refused.Faults, Refused.fault, Refused.bankFaults}
-use Rattle.rules.specs.{Refused.roomFaults}
+use Rattle.rules.specs.{Limits.policyBytes, Limits.requestBytes, Limits.maxCatalogModels, Records.recordsIn, Refused.Faults, Refused.fault}
+use Rattle.rules.specs.{Refused.bankFaults}
+use Rattle.rules.specs.{Refused.roomFaults, Stored.policyByteFaults}
 use Rattle.rules.proofs.Faults.{none-first, none-after, equal-none, room-passed, few-records}
+use Rattle.unpacking.proofs.Policies.{policy-long}
 use Rattle.export_checks.specs.Checks.{Lent, sizeFaults, lentFaults, callFaults}
 
 module _ (have want : ℕ) where
@@ -30,19 +32,19 @@ pub lent-room : (bank : List ℕ) (needed room : ℕ) → lentFaults bank needed
 lent-room bank needed room e = room-passed needed room (none-after (bankFaults bank) (roomFaults needed room) e)
 
 module _ (l : Lent) (needed room : ℕ) (e : callFaults l needed room ≡ []) where
-  after : sizeFaults (length (l .request)) requestBytes ++ lentFaults (l .bank) needed room ≡ []
+  after : policyByteFaults (l .policy) ++ lentFaults (l .bank) needed room ≡ []
   unfolding callFaults
-  after = none-after (sizeFaults (length (l .policy)) policyBytes) _ e
+  after = none-after (sizeFaults (length (l .request)) requestBytes) _ e
 
   pub call-policy : policyBytes ≤ length (l .policy)
-  unfolding callFaults
-  call-policy = let is = size-is (length (l .policy)) policyBytes (none-first _ _ e) in omega arith
+  call-policy = policy-long (l .policy) (none-first _ _ after)
 
   pub call-request : requestBytes ≤ length (l .request)
-  call-request = let is = size-is (length (l .request)) requestBytes (none-first _ _ after) in omega arith
+  unfolding callFaults
+  call-request = let is = size-is (length (l .request)) requestBytes (none-first _ _ e) in omega arith
 
   lending : lentFaults (l .bank) needed room ≡ []
-  lending = none-after (sizeFaults (length (l .request)) requestBytes) _ after
+  lending = none-after (policyByteFaults (l .policy)) _ after
 
   -- what a call that takes them asks for
   pub call-lent : (policyBytes ≤ length (l .policy)) × (requestBytes ≤ length (l .request)) × (recordsIn (length (l .bank)) ≤ maxCatalogModels)

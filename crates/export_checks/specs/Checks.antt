@@ -5,11 +5,12 @@ use mathlib.Core.List.{List, [], _∷_, _++_}
 use mathlib.Core.Option.{Option, none, some}
 use lib.Dec.{eqb}
 use lib.ListN.{length}
-use Rattle.rules.specs.Limits.{requestBytes, policyBytes}
+use Rattle.rules.specs.Limits.{requestBytes}
 use Rattle.rules.specs.Choice.{equal}
 use Rattle.rules.specs.Bytes.{filled}
 use Rattle.rules.specs.Records.{inputOf}
 use Rattle.rules.specs.Refused.{Fault, Faults, fault, refuseIf, bankFaults, roomFaults, Answer, refused, answered}
+use Rattle.rules.specs.Stored.{policyByteFaults}
 use Rattle.rules.specs.Decide.{requestFaults}
 
 -- ---- what is lent
@@ -23,7 +24,7 @@ pub record Lent : Type 0 where
 abbrev pub lent : List ℕ → List ℕ → List ℕ → Lent
 lent policy request bank = record { policy = policy; request = request; bank = bank }
 
--- 22 where a policy or a request has another length than its own
+-- 22 where a request has another length than its own
 unfoldable pub sizeFaults : ℕ → ℕ → Faults
 sizeFaults have want = refuseIf (not (eqb have want)) (fault 22)
 
@@ -31,13 +32,12 @@ sizeFaults have want = refuseIf (not (eqb have want)) (fault 22)
 abbrev pub lentFaults : List ℕ → ℕ → ℕ → Faults
 lentFaults bank needed room = bankFaults bank ++ roomFaults needed room
 
--- 22, 1, 2, 4: what comes in as bytes, then the bank and the buffer
+-- 22, 23, 1, 2, 4: the lengths of what comes in as bytes and how the policy rounds, then the bank and the buffer
 unfoldable pub callFaults : Lent → ℕ → ℕ → Faults
 callFaults l needed room =
-    sizeFaults (length (l .policy)) policyBytes
-    ++ (sizeFaults (length (l .request)) requestBytes ++ lentFaults (l .bank) needed room)
+    sizeFaults (length (l .request)) requestBytes ++ (policyByteFaults (l .policy) ++ lentFaults (l .bank) needed room)
 
--- 22, 1, 2, 4, 3: the request's fields besides
+-- 22, 23, 1, 2, 4, 3: the request's fields besides
 abbrev pub checkedFaults : Lent → ℕ → ℕ → Faults
 checkedFaults l needed room = callFaults l needed room ++ requestFaults (inputOf (l .request)) 0
 

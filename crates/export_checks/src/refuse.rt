@@ -1,11 +1,11 @@
-// What a call refuses before it decides: the lengths of what comes in, the bank, the room for the answer.
+// What a call refuses before it decides: the lengths of what comes in, how the policy rounds, the bank, the room for the answer.
 use crate::word::outcome_word;
 use bank::unchecked::input_of;
+use bank::unchecked::policy_lent_outcome;
 use call_checks::refuse::bank_outcome;
 use call_checks::refuse::input_outcome;
 use rules::Outcome;
 use rules::Refusal;
-use rules::limits::POLICY_BYTES;
 use rules::limits::REQUEST_BYTES;
 ghost use mathlib.Core.Path.{_≡_};
 ghost use Rattle.rules.specs.Refused.{firstFault, toldOutcome};
@@ -25,7 +25,7 @@ pub fn lent_outcome(bank: &[u8], needed: usize, room: usize) -> Outcome
     Outcome::Answered
 }
 
-// 22 for the policy or the request, then 1, 2 and 4.
+// 22 for the request or the policy, 23, then 1, 2 and 4. Where both lengths are wrong, each is the same 22.
 pub fn call_outcome(
     policy: &[u8],
     request: &[u8],
@@ -35,11 +35,12 @@ pub fn call_outcome(
 ) -> Outcome
     ensures { λ r. ⌜ toldOutcome r ≡ firstFault (callFaults (lent (now (policy .entry)) (now (request .entry)) (now (bank .entry))) needed room) ⌝ }
 {
-    if policy.len() != POLICY_BYTES {
-        return Outcome::Refused(Refusal::WrongLength);
-    }
     if request.len() != REQUEST_BYTES {
         return Outcome::Refused(Refusal::WrongLength);
+    }
+    let outcome = policy_lent_outcome(policy);
+    if let Outcome::Refused(refusal) = outcome {
+        return Outcome::Refused(refusal);
     }
     lent_outcome(bank, needed, room)
 }

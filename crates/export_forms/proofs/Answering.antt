@@ -1,8 +1,8 @@
 -- What each call leaves, from what the calls below it tell. Assumes nothing.
 use Rattle.rules.proofs.Kit.{ℕ, _+_, _<_, _≤_, _≡_, _∙_, Bool, true, false, List, [], _∷_, _++_, arith, lt-ltb, le-ltb, ltb, length}
-use Rattle.rules.specs.{Limits.policyBytes, Limits.requestBytes, Bytes.bytesOf, Records.recordsIn, Refused.Faults, Refused.fault, Refused.refuseIf}
+use Rattle.rules.specs.{Limits.longestPolicyBytes, Limits.requestBytes, Bytes.bytesOf, Records.recordsIn, Refused.Faults, Refused.fault, Refused.refuseIf}
 use Rattle.rules.specs.{Refused.firstFault, Refused.toldOutcome, Refused.bankFaults, Refused.roomFaults, Refused.listUnless, Refused.Answer, Refused.answered}
-use Rattle.rules.specs.{Listing.readingFaults, Stored.formFaults, Stored.storedBank, Stored.readFaults, declared.refusal.Outcome.Outcome}
+use Rattle.rules.specs.{Listing.readingFaults, Stored.formFaults, Stored.storedTags, Stored.storedBank, Stored.readFaults, declared.refusal.Outcome.Outcome}
 use Rattle.rules.specs.{declared.refusal.Outcome.the-variants.Answered}
 use Rattle.rules.proofs.Faults.{none-first, none-told}
 use Rattle.endian.specs.Put.{patched}
@@ -51,7 +51,7 @@ pub roomless-so : {w : ℕ} (form bank out : List ℕ) → length out < storedSi
 unfolding readFaults roomFaults firstFault handed
 roomless-so {w} form bank out short h =
     rw (lt-ltb (length out) storedSize short)
-    (go (formFaults (1 ∷ 2 ∷ []) form) (ltb (length bank) (length (storedBank form))) h)
+    (go (formFaults storedTags form) (ltb (length bank) (length (storedBank form))) h)
   where
     leaves : Faults → (ℕ × List ℕ) × List ℕ
     leaves fs = (handed storedBytes fs (answered (storedIn form)) out, listUnless fs (storedBank form) bank)
@@ -63,9 +63,9 @@ roomless-so {w} form bank out short h =
     go (f ∷ fs) t e = rw e
 
 -- A policy at the start of a buffer, and a length right after it
-pub policy-and-length : {e g : List ℕ} (d head : List ℕ) (n : ℕ) → length head ≡ policyBytes → storedSize ≤ length d
-    → e ≡ patched d 0 head → g ≡ patched e policyBytes (bytesOf wordSize n) → (0, g) ≡ delivered (head ++ bytesOf wordSize n) d
+pub policy-and-length : {e g : List ℕ} (d head : List ℕ) (n : ℕ) → length head ≡ longestPolicyBytes → storedSize ≤ length d
+    → e ≡ patched d 0 head → g ≡ patched e longestPolicyBytes (bytesOf wordSize n) → (0, g) ≡ delivered (head ++ bytesOf wordSize n) d
 policy-and-length d head n long room first second =
-    let next : policyBytes ≡ 0 + length head = omega (arith, long) in
+    let next : longestPolicyBytes ≡ 0 + length head = omega (arith, long) in
     let join = patch-join d 0 head (bytesOf wordSize n) (omega (arith, long, room)) in
     delivered-so _ _ (second ∙ (λ i. patched (first i) (next i) (bytesOf wordSize n)) ∙ join)

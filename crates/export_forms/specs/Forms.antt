@@ -2,13 +2,13 @@
 use Prim.Native.Nat.{ℕ, _+_, _*_}
 use mathlib.Core.List.{List, [], _∷_, _++_}
 use lib.ListN.{length}
-use Rattle.rules.specs.Limits.{recordBytes, requestBytes, policyBytes}
+use Rattle.rules.specs.Limits.{recordBytes, requestBytes, longestPolicyBytes}
 use Rattle.rules.specs.Bytes.{bytesOf}
 use Rattle.rules.specs.Records.{inputOf, inputBytes, policyOf, policyInBytes}
 use Rattle.rules.specs.Refused.{Faults, fault, roomFaults, listUnless, Answer, refused, answered}
 use Rattle.rules.specs.Numbers.{StoredPolicy}
 use Rattle.rules.specs.Listing.{readingFaults}
-use Rattle.rules.specs.Stored.{bodyOf, formFaults, storedForm, writeFaults, storedPolicy, storedBank, readFaults, requestForm}
+use Rattle.rules.specs.Stored.{bodyOf, formFaults, policyByteFaults, storedTags, storedForm, writeFaults, storedPolicy, storedBank, readFaults, requestForm}
 use Rattle.export_checks.specs.Checks.{wordAt, wordSize, sizeFaults, lentFaults, handed, itself}
 
 -- ---- `volankizo_record_at`
@@ -24,9 +24,9 @@ recordAtCall bank place out =
 
 -- ---- `volankizo_write_stored` and `volankizo_write_request`
 
--- 22, 1, 2, 18, 4
+-- 22, 23, 1, 2, 18, 4
 abbrev pub writeStoredFaults : List ℕ → List ℕ → ℕ → Faults
-writeStoredFaults policy bank room = sizeFaults (length policy) policyBytes ++ writeFaults (policyOf policy) bank room
+writeStoredFaults policy bank room = policyByteFaults policy ++ writeFaults (policyOf policy) bank room
 
 abbrev pub writeStoredCall : List ℕ → List ℕ → List ℕ → ℕ × List ℕ
 writeStoredCall policy bank out =
@@ -48,11 +48,11 @@ writtenWord (answered n) = 0
 
 -- ---- `volankizo_read_stored`
 
--- A policy's bytes and a length's
+-- A policy's bytes, how it rounds among them, and a length's
 abbrev pub storedSize : ℕ
-storedSize = policyBytes + wordSize
+storedSize = longestPolicyBytes + wordSize
 
--- 20 to 22 of the form, then 4: of the bank's buffer, which has so much room, or of the other one
+-- 20 to 23 of the form, then 4: of the bank's buffer, which has so much room, or of the other one
 abbrev pub readStoredFaults : List ℕ → ℕ → ℕ → Faults
 readStoredFaults form bank room = readFaults form bank ++ roomFaults storedSize room
 
@@ -71,7 +71,7 @@ readStoredCall form bank out =
 
 -- Where the second buffer is too short: the form's own fault, else 4
 abbrev pub roomlessFaults : List ℕ → Faults
-roomlessFaults form = formFaults (1 ∷ 2 ∷ []) form ++ (fault 4 ∷ [])
+roomlessFaults form = formFaults storedTags form ++ (fault 4 ∷ [])
 
 -- ---- `volankizo_read_request`
 

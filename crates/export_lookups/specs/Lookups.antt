@@ -24,7 +24,7 @@ utilityBytes u = bytesOf wordSize (ofZ w64 u)
 abbrev pub utilityAsked : Lent → ℕ → Answer ℤ
 utilityAsked l id = utilityForModelOf (policyOf (l .policy)) (inputOf (l .request)) id (l .bank)
 
--- 22, 1, 2, 4, 7
+-- 22, 23, 1, 2, 4, 7
 abbrev pub utilityCall : Lent → ℕ → List ℕ → ℕ × List ℕ
 utilityCall l id out = handed utilityBytes (callFaults l wordSize (length out)) (utilityAsked l id) out
 

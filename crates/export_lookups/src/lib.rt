@@ -45,7 +45,7 @@ fn utility_handed(found: UtilityFound, out: &mut [u8]) -> u64
     }
 }
 
-// The utility of one model. Refused: 22, 1, 2, 4, 7.
+// The utility of one model. Refused: 22, 23, 1, 2, 4, 7.
 pub fn utility_delivered(policy: &[u8], request: &[u8], bank: &[u8], id: u32, out: &mut [u8]) -> u64
     ensures { λ r. ⌜ (r, now (out .exit)) ≡ utilityCall (lent (now (policy .entry)) (now (request .entry)) (now (bank .entry))) id (now (out .entry)) ⌝ }
 {

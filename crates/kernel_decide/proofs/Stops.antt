@@ -1,7 +1,8 @@
 -- What a stopped request is answered, and one that isn't. Assumes nothing.
 use Rattle.rules.proofs.Kit.{ℕ, _<_, le-of-eq, _≡_, sym, ap, _∙_, List}
 use Rattle.rules.specs.{Refused.refused, Refused.answered, Refused.fault, Numbers.reasonNo, Numbers.Decision, Records.Listed, Listing.firstListed}
-use Rattle.rules.specs.{Verdict.judged, Count.noCounts, Count.countsOf, Decide.stoppedBy, Decide.rejection, Decide.byVerdicts, Decide.decisionOf}
+use Rattle.rules.specs.{Price.costUnder, Verdict.judged, Count.noCounts, Count.countsOf, Decide.stoppedBy, Decide.rejection, Decide.byVerdicts}
+use Rattle.rules.specs.{Decide.decisionBy, Decide.decisionOf}
 use Rattle.rules.specs.{Decide.countsIn, Decide.traceOf, Decide.tracedOf, Decide.ifListed, Decide.utilityIn, declared.records.KernelInput.KernelInput}
 use Rattle.rules.specs.{declared.records.PolicySnapshot.PolicySnapshot, declared.decision.DecisionTrace.DecisionTrace}
 use Rattle.rules.specs.{declared.decision.RejectionHistogram.RejectionHistogram, declared.decision.KernelReason.KernelReason}
@@ -23,7 +24,7 @@ module _ {s : Stop} (p : PolicySnapshot) (q : KernelInput) (told : toldStop s �
 
   -- A REQUEST THAT NOTHING STOPS is decided over the records
   pub open-decision : (ls : List Listed) → s ≡ Open → decisionOf p q ls ≡ byVerdicts p q (judged p q ls)
-  open-decision ls e = unstopped p q ls (open-free e)
+  open-decision ls e = unstopped (costUnder p) p q ls (open-free e)
 
   pub open-counts : (ls : List Listed) → s ≡ Open → countsIn p q ls ≡ countsOf (judged p q ls)
   unfolding countsIn
@@ -35,7 +36,7 @@ module _ {s : Stop} (p : PolicySnapshot) (q : KernelInput) (told : toldStop s �
 
   -- A STOPPED REQUEST is a rejection that evaluates no record
   pub stopped-decision : {r : KernelReason} (ls : List Listed) → s ≡ By r → decisionOf p q ls ≡ rejection p q (reasonNo r) 0
-  unfolding decisionOf
+  unfolding decisionBy
   stopped-decision ls e = below-yes _ _ _ _ (by-high e) ∙ ap (λ n. rejection p q n 0) (by-number e)
 
   pub stopped-counts : {r : KernelReason} (ls : List Listed) → s ≡ By r → countsIn p q ls ≡ noCounts

@@ -1,10 +1,12 @@
 -- What a scan holds, record by record: one more, some more, and the sum of the counts. Assumes nothing.
 use Rattle.kernel_ranking.proofs.Steps.{turnedAway, stepOf, runOf}
-use Rattle.rules.proofs.Kit.{ℕ, suc, _+_, _<_, arith, _≡_, refl, _∙_, Bool, true, false, cond, List, [], _∷_, _++_, append-nil, append-assoc, foldl, map-append}
+use Rattle.rules.proofs.Kit.{ℕ, suc, _+_, _<_, arith, _≡_, refl, _∙_, Bool, true, false, cond, List, [], _∷_, _++_, append-nil, append-assoc, foldl}
+use Rattle.rules.proofs.Kit.{map-append}
 use Rattle.rules.proofs.Kit.{ltb, eqb, eqb-true, ℤ, pos, length, length-append, leZ}
-use Rattle.rules.specs.{Choice.below, Choice.equal, Numbers.Verdict, Records.Listed, Gates.gateOf, Gates.detailOf, Price.costOf, Utility.utilityOf}
+use Rattle.rules.specs.{Choice.below, Choice.equal, Numbers.Verdict, Records.Listed, Gates.gateOf, Gates.detailOf, Utility.utilityOf}
 use Rattle.rules.specs.{Verdict.Judged, Verdict.judge, Verdict.judged, Verdict.rejected, Verdict.overBudget, Verdict.withTerms, Verdict.byUtility}
-use Rattle.rules.specs.{Verdict.verdictOf, Order.sortedBy, Order.InOrder, Rank.Candidate, Rank.candidateOf, Rank.better, Rank.keep, Rank.eligibles}
+use Rattle.rules.specs.{Verdict.verdictCosting, Verdict.verdictOf, Order.sortedBy, Order.InOrder, Rank.Candidate, Rank.candidateOf, Rank.better, Rank.keep}
+use Rattle.rules.specs.{Rank.eligibles}
 use Rattle.rules.specs.{Rank.ranking, Count.countedFor, Count.countsOf, Count.raisedBy, Count.total, declared.records.KernelModel.KernelModel}
 use Rattle.rules.specs.{declared.records.KernelInput.KernelInput, declared.records.PolicySnapshot.PolicySnapshot}
 use Rattle.rules.specs.{declared.decision.RejectionHistogram.RejectionHistogram}
@@ -28,20 +30,20 @@ either false u v h k = k
 not-four : {A : Type 0} (n : ℕ) → n < 4 → n ≡ 4 → A
 not-four n h e = absurd (omega arith)
 
-module _ (p : PolicySnapshot) (q : KernelInput) (m : KernelModel) where
-  worth-terms : (b : Bool) → leZ (utilityOf p m q) (pos 0) ≡ b → Worth (withTerms p q m (cond b 3 4))
+module _ (p : PolicySnapshot) (q : KernelInput) (m : KernelModel) (cost : ℕ) where
+  worth-terms : (b : Bool) → leZ (utilityOf p m q cost) (pos 0) ≡ b → Worth (withTerms p q m cost (cond b 3 4))
   worth-terms true e = not-four 3 (omega arith)
-  worth-terms false e = λ k. positive (utilityOf p m q) e
+  worth-terms false e = λ k. positive (utilityOf p m q cost) e
 
-  worth-priced : Worth (byUtility p q m)
+  worth-priced : Worth (byUtility p q m cost)
   unfolding byUtility
-  worth-priced = worth-terms (leZ (utilityOf p m q) (pos 0)) refl
+  worth-priced = worth-terms (leZ (utilityOf p m q cost) (pos 0)) refl
 
-  pub verdict-worth : verdictOf p q m .kind ≡ 4 → Positive (verdictOf p q m .utility)
-  unfolding verdictOf below
+  pub verdict-worth : verdictCosting p q m cost .kind ≡ 4 → Positive (verdictCosting p q m cost .utility)
+  unfolding verdictCosting below
   verdict-worth =
       either (ltb 0 (gateOf m q)) (rejected (gateOf m q) (detailOf m q (gateOf m q))) _ (not-four 1 (omega arith))
-      (either (ltb (q .«budget_limit_microunits») (costOf m q)) (overBudget (costOf m q) (q .«budget_limit_microunits»)) _
+      (either (ltb (q .«budget_limit_microunits») cost) (overBudget cost (q .«budget_limit_microunits»)) _
       (not-four 2 (omega arith)) worth-priced)
 
 module _ (p : PolicySnapshot) (q : KernelInput) where
@@ -50,7 +52,7 @@ module _ (p : PolicySnapshot) (q : KernelInput) where
   kept-positive l cs a = go (eqb (verdictOf p q (l .model) .kind) 4) refl
     where
       go : (t : Bool) → eqb (verdictOf p q (l .model) .kind) 4 ≡ t → AllPositive (cond t (candidateOf (judge p q l) ∷ cs) cs)
-      go true e = (verdict-worth p q (l .model) (eqb-true _ _ e), a)
+      go true e = (verdict-worth p q (l .model) _ (eqb-true _ _ e), a)
       go false e = a
 
   eligibles-positive : (ls : List Listed) → AllPositive (eligibles (judged p q ls))
@@ -113,7 +115,8 @@ module _ (p : PolicySnapshot) (q : KernelInput) where
       let js = judged p q ls in
       let j = judge p q l in
       rw (judged-append ls (l ∷ []), judged-snoc js j, eligibles-append js (j ∷ []))
-      (one-more (countsOf js) (eligibles js) (candidateOf j) (j .verdict) (eqb (j .verdict .kind) 4) refl (verdict-worth p q (l .model)) (ranking-holds p q ls))
+      (one-more (countsOf js) (eligibles js) (candidateOf j) (j .verdict) (eqb (j .verdict .kind) 4) refl (verdict-worth p q (l .model) _)
+      (ranking-holds p q ls))
 
 -- ---- some records more
 

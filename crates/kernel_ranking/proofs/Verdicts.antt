@@ -2,7 +2,8 @@
 use Rattle.kernel_ranking.proofs.Steps.{turnedAway, stepOf, runOf}
 use Rattle.rules.proofs.Kit.{ℕ, suc, _+_, _^_, arith, _≡_, refl, sym, ap, _∙_, Bool, true, false, cond, List, [], _∷_, _++_, foldl-append, lt-ltb, le-ltb}
 use Rattle.rules.proofs.Kit.{leb-true, leb-false, ltb-true, ltb, leb, pos, length, leZ}
-use Rattle.rules.specs.{Choice.below, Choice.equal, Records.Listed, Records.listed, Gates.gateOf, Gates.detailOf, Price.costOf, Utility.utilityOf}
+use Rattle.rules.specs.{Choice.below, Choice.equal, Records.Listed, Records.listed, Gates.gateOf, Gates.detailOf, Price.costOf, Price.costUnder}
+use Rattle.rules.specs.{Utility.utilityOf}
 use Rattle.rules.specs.{Count.gateReason, Count.countedFor, Count.total, declared.records.KernelModel.KernelModel, declared.records.KernelInput.KernelInput}
 use Rattle.rules.specs.{declared.records.PolicySnapshot.PolicySnapshot}
 use Rattle.rules.proofs.{Reasons.reason-counted, Verdicts.gate-high, Counts.total-raised}
@@ -32,32 +33,33 @@ module _ (p : PolicySnapshot) (q : KernelInput) (s : State) (place : ℕ) (m : K
   unfolding stepOf turnedAway stateAfter countedOf countedFor equal
   alike-rejected gate = refl
 
-  alike-budget : Alike (rules.overBudget (costOf m q) (q .«budget_limit_microunits»)) (OverBudget (costOf m q))
+  alike-budget : (cost : ℕ) → Alike (rules.overBudget cost (q .«budget_limit_microunits»)) (OverBudget cost)
   unfolding stepOf turnedAway stateAfter countedOf countedFor equal
-  alike-budget = refl
+  alike-budget cost = refl
 
-  module _ (t : ScoredTerms) (ruled : Ruled p m q t) where
-    held-score : scored (utilityOf p m q) ≡ t .score
+  module _ (cost : ℕ) (t : ScoredTerms) (ruled : Ruled p m q cost t) where
+    held-score : scored (utilityOf p m q cost) ≡ t .score
     held-score = ap scored (sym (ruled .utility)) ∙ scored-unscored (t .score)
 
-    alike-terms : (b : Bool) → leb (t .score) (2 ^ 63) ≡ b → Alike (rules.withTerms p q m (cond b 3 4)) (byScore t)
+    alike-terms : (b : Bool) → leb (t .score) (2 ^ 63) ≡ b → Alike (rules.withTerms p q m cost (cond b 3 4)) (byScore t)
     unfolding stepOf turnedAway stateEntered stateAfter countedOf countedFor equal enteringOf heldOf byScore below
     alike-terms true e = rw (le-ltb (2 ^ 63) (t .score) (leb-true _ _ e))
     alike-terms false e = rw (lt-ltb (2 ^ 63) (t .score) (leb-false _ _ e), held-score, ruled .cost)
 
-    alike-priced : Alike (rules.byUtility p q m) (byScore t)
+    alike-priced : Alike (rules.byUtility p q m cost) (byScore t)
     unfolding rules.byUtility
     alike-priced =
-        let e : leZ (utilityOf p m q) (pos 0) ≡ leb (t .score) (2 ^ 63) = ap (λ u. leZ u (pos 0)) (sym (ruled .utility)) ∙ score-positive (t .score) in
+        let e : leZ (utilityOf p m q cost) (pos 0) ≡ leb (t .score) (2 ^ 63) = ap (λ u. leZ u (pos 0)) (sym (ruled .utility)) ∙ score-positive (t .score) in
         rw e (alike-terms (leb (t .score) (2 ^ 63)) refl)
 
   -- ONE STEP OF THE RULES IS WHAT THE SCAN DOES AT ITS VERDICT
   pub step-alike : stepOf s (rules.judge p q (listed place m)) ≡ stateAfter s place m (verdictIn (pricingOf p q) q m)
-  unfolding rules.verdictOf verdictIn below
+  unfolding rules.verdictCosting verdictIn pricingOf below
   step-alike =
-      let t = termsWith (pricingOf p q) m (costOf m q) in
+      let cost = costUnder p m q in
+      let t = termsWith (pricingOf p q) m cost in
       either (ltb 0 (gateOf m q)) _ _ (Rejected (gateOf m q)) _ (alike-rejected (gateOf m q))
-      (either (ltb (q .«budget_limit_microunits») (costOf m q)) _ _ (OverBudget (costOf m q)) (byScore t) alike-budget (alike-priced t (terms-rule p m q)))
+      (either (ltb (q .«budget_limit_microunits») cost) _ _ (OverBudget cost) (byScore t) (alike-budget cost) (alike-priced cost t (terms-rule p m q cost)))
 
 -- ---- some records
 
@@ -85,11 +87,12 @@ module _ (s : State) (place : ℕ) (m : KernelModel) where
   after-grows : (pr : Pricing) (q : KernelInput) → Grows (verdictIn pr q m)
   unfolding verdictIn below stateAfter countedOf
   after-grows pr q =
+      let cost = costOf (pr .rounding) m q in
       either-grows (ltb 0 (gateOf m q)) (Rejected (gateOf m q)) _
       (λ e. let b = reason-counted (gateOf m q) (ltb-true 0 (gateOf m q) e) (gate-high m q) in omega
       (arith, total-raised (s .counts) (gateReason (gateOf m q)) (b .0) (b .1)))
-      (either-grows (ltb (q .«budget_limit_microunits») (costOf m q)) (OverBudget (costOf m q)) (byScore (termsWith pr m (costOf m q)))
-      (λ e. omega (arith, total-raised (s .counts) 108 (omega arith) (omega arith))) (priced-grows (termsWith pr m (costOf m q))))
+      (either-grows (ltb (q .«budget_limit_microunits») cost) (OverBudget cost) (byScore (termsWith pr m cost))
+      (λ e. omega (arith, total-raised (s .counts) 108 (omega arith) (omega arith))) (priced-grows (termsWith pr m cost)))
 
 module _ (pr : Pricing) (q : KernelInput) where
   pub scan-append : (s : State) (ls ks : List Listed) → scanOf pr q s (ls ++ ks) ≡ scanOf pr q (scanOf pr q s ls) ks

@@ -25,7 +25,7 @@ module _ (p : PolicySnapshot) (q : KernelInput) (place : ℕ) (m : KernelModel) 
             eligible = length (cond t (candidateOf (judge p q (listed place m)) ∷ []) []);
           })
           ≡ cond t (answered (verdictOf p q m .utility)) (refused (fault 7))
-      go true e = ap answered (score-back (verdictOf p q m .utility) (verdict-worth p q m (eqb-true _ _ e)))
+      go true e = ap answered (score-back (verdictOf p q m .utility) (verdict-worth p q m _ (eqb-true _ _ e)))
       go false e = refl
 
 -- the part that the code lends

@@ -22,7 +22,7 @@ byScore t = below (2 ^ 63) (t .score) (Eligible t) (NonPositive t)
 unfoldable pub verdictIn : Pricing → KernelInput → KernelModel → Verdict
 verdictIn pr q m =
     below 0 (gateOf m q) (Rejected (gateOf m q))
-    (below (q .«budget_limit_microunits») (costOf m q) (OverBudget (costOf m q)) (byScore (termsWith pr m (costOf m q))))
+    (below (q .«budget_limit_microunits») (costOf (pr .rounding) m q) (OverBudget (costOf (pr .rounding) m q)) (byScore (termsWith pr m (costOf (pr .rounding) m q))))
 
 -- D23. The counts with one more record
 unfoldable pub countedOf : RejectionHistogram → Verdict → RejectionHistogram

@@ -50,7 +50,8 @@ pub fn verdict_of(pricing: Pricing, input: KernelInput, model: KernelModel) -> V
     if 0 < gate {
         return Verdict::Rejected(gate);
     }
-    let cost = pricing::cost(model, input);
+    let rounding = pricing.rounding;
+    let cost = pricing::cost(rounding, model, input);
     if input.budget_limit_microunits < cost {
         return Verdict::OverBudget(cost);
     }

@@ -9,6 +9,10 @@ abbrev pub Fitting : List (ℕ × ℕ) → Type 0
 Fitting [] = Unit {0}
 Fitting (f ∷ fs) = (f .1 < 256 ^ f .0) × Fitting fs
 
+pub fitting-append : (fs gs : List (ℕ × ℕ)) → Fitting fs → Fitting gs → Fitting (fs ++ gs)
+fitting-append [] gs p q = q
+fitting-append (f ∷ fs) gs p q = (p .0, fitting-append fs gs (p .1) q)
+
 -- How many bytes the fields have together
 abbrev pub widths : List (ℕ × ℕ) → ℕ
 widths [] = 0

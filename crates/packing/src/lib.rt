@@ -3,14 +3,17 @@
 pub mod unchecked;
 
 ghost use mathlib.Core.Path.{_≡_};
-ghost use Rattle.rules.specs.Records.{modelBytes, inputBytes, policyInBytes};
+ghost use lib.ListN.{length};
+ghost use Rattle.rules.specs.Limits.{policyBytes};
+ghost use Rattle.rules.specs.Records.{modelBytes, inputBytes, policyNumberBytes, policyInBytes};
 use endian::signed_bits;
 use rules::KernelInput;
 use rules::KernelModel;
 use rules::PolicySnapshot;
+use rules::limits::LONGEST_POLICY_BYTES;
+use rules::limits::LongestPolicyBytes;
 use rules::limits::ModelBytes;
 use rules::limits::POLICY_BYTES;
-use rules::limits::PolicyBytes;
 use rules::limits::RECORD_BYTES;
 use rules::limits::REQUEST_BYTES;
 use rules::limits::RequestBytes;
@@ -63,9 +66,10 @@ pub fn input_bytes(q: KernelInput) -> RequestBytes
     a
 }
 
-// The bytes that say a policy.
-pub fn policy_bytes(p: PolicySnapshot) -> PolicyBytes
-    ensures { λ r. ⌜ r ≡ policyInBytes p ⌝ }
+// Fills 30 bytes with those that say a policy's numbers.
+fn put_numbers(out: &mut [u8], p: PolicySnapshot)
+    requires { ⌜ length (now out) ≡ policyBytes ⌝ }
+    ensures { λ r. ⌜ now (out .exit) ≡ policyNumberBytes p ⌝ }
 {
     let widths = [8, 8, 2, 2, 2, 8];
     let values = [
@@ -76,7 +80,25 @@ pub fn policy_bytes(p: PolicySnapshot) -> PolicyBytes
         p.risk_penalty_multiplier_bps as u64,
         p.latency_penalty_microunits_per_ms,
     ];
+    put_packed(out, &widths, &values);
+}
+
+// The bytes that say a policy's numbers, as in tag 1.
+pub fn policy_number_bytes(p: PolicySnapshot) -> [u8; POLICY_BYTES]
+    ensures { λ r. ⌜ r ≡ policyNumberBytes p ⌝ }
+{
     let mut a = [0u8; POLICY_BYTES];
-    put_packed(&mut a, &widths, &values);
+    put_numbers(&mut a, p);
+    a
+}
+
+// The bytes that say a policy: those of its numbers, then how it rounds.
+pub fn policy_bytes(p: PolicySnapshot) -> LongestPolicyBytes
+    ensures { λ r. ⌜ r ≡ policyInBytes p ⌝ }
+{
+    let rounding = p.rounding;
+    let mut a = [0u8; LONGEST_POLICY_BYTES];
+    put_numbers(&mut a[0..POLICY_BYTES], p);
+    a[POLICY_BYTES] = rounding.number();
     a
 }

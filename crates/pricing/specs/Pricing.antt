@@ -17,7 +17,7 @@ priceLimit inputTokens outputTokens = below inputTokens (2 ^ 24) (below outputTo
 unfoldable pub prefixOf : ℕ → ℕ → ℕ
 prefixOf value share = below value (2 ^ 48) (value * share) maxU64
 
--- D15, D16, D17, D18. What is the same for every model: V, the quality term's first factor, and the risk term
+-- D15, D16, D17, D18, O1. What is the same for every model: V, the quality term's first factor, the risk term, and how a cost is rounded
 unfoldable pub pricingOf : PolicySnapshot → KernelInput → Pricing
 pricingOf p q =
     record {
@@ -26,6 +26,7 @@ pricingOf p q =
       «quality_prefix» = prefixOf (orZero (q .«business_value_microunits»)) (q .«confidence_bps»);
       «risk_penalty» = wideOf (riskTermOf p q);
       «latency_pen_per_ms» = p .«latency_penalty_microunits_per_ms»;
+      rounding = p .rounding;
     }
 
 -- a pricing whose parts belong together: the prefix is that of its value, and the risk term leaves room for the others

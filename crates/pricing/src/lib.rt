@@ -4,8 +4,9 @@ mod price;
 mod settle;
 
 pub use price::cost;
-pub use price::cost_apart;
+pub use price::cost_alone;
 pub use price::scaled_price;
+use rules::Rounding;
 use rules::Wide;
 pub use settle::pricing_of;
 pub use settle::share;
@@ -25,4 +26,5 @@ pub struct Pricing {
     pub quality_prefix: u64,
     pub risk_penalty: Wide,
     pub latency_pen_per_ms: u64,
+    pub rounding: Rounding,
 }

@@ -1,14 +1,16 @@
-// What tokens cost. By 64 bits where the prices are below 2^32, whatever the tokens, or below 2^40 and the tokens below 2^24; else by
-// two limbs.
+// What tokens cost. By 64 bits where the prices are below 2^32, whatever the tokens, or below 2^40 and the tokens below 2^24, and once below
+// half of that, since there two products are added; else by two limbs.
 ghost use mathlib.Core.Path.{_≡_};
-ghost use Prim.Native.Nat.{min, _+_, _-_, _*_, _/_, _^_, _<_, _≤_};
+ghost use Prim.Native.Nat.{min, _+_, _-_, _*_, _/_, _%_, _^_, _<_, _≤_};
 ghost use Rattle.rules.specs.Limits.{costScale, maxU64};
-ghost use Rattle.rules.specs.Price.{billed, costOf, scaledPrice};
+ghost use Rattle.rules.specs.Price.{billed, billedBoth, costOf, scaledPrice};
 ghost use Rattle.rules.specs.Wide.{val};
 ghost use Rattle.pricing.specs.Pricing.{priceLimit};
+ghost use Rattle.rules.specs.declared.records.Rounding.the-variants.{Apart, Once};
 use crate::HALF;
 use rules::KernelInput;
 use rules::KernelModel;
+use rules::Rounding;
 use rules::Wide;
 use rules::limits::PPM;
 
@@ -19,12 +21,32 @@ const FEW_TOKENS: u32 = 0x100_0000;
 
 const HIGH_PRICE: u64 = 0x100_0000_0000;
 
-// One direction's cost by 64 bits: half of `model_cost_fast`.
-fn billed_small(tokens: u32, price: u64) -> u64
-    requires { ⌜ tokens * price ≤ (2 ^ 32 - 1) * (2 ^ 32 - 1) ⌝ }
-    ensures { λ r. ⌜ (r ≡ billed tokens price) × (r < 2 ^ 62) ⌝ }
+// By the million tokens, rounded up, by 64 bits: each division of `model_cost_fast`.
+fn billed_small(exact: u64) -> u64
+    requires { ⌜ exact + costScale ≤ 2 ^ 64 ⌝ }
+    ensures { λ r. ⌜ (r ≡ billed exact) × (r < 2 ^ 62) ⌝ }
 {
-    ((tokens as u64) * price + (COST_SCALE - 1)) / COST_SCALE
+    (exact + (COST_SCALE - 1)) / COST_SCALE
+}
+
+// Both directions by 64 bits, each rounded up apart, where the sum needs no test: `model_cost_fast`.
+fn apart_small(input_tokens: u32, input_price: u64, output_tokens: u32, output_price: u64) -> u64
+    requires { ⌜ («input_tokens» * «input_price» ≤ (2 ^ 32 - 1) * (2 ^ 32 - 1)) × («output_tokens» * «output_price» ≤ (2 ^ 32 - 1) * (2 ^ 32 - 1)) ⌝ }
+    ensures { λ r. ⌜ r ≡ min maxU64 (billedBoth Apart («input_tokens» * «input_price») («output_tokens» * «output_price»)) ⌝ }
+{
+    let there = (input_tokens as u64) * input_price;
+    let back = (output_tokens as u64) * output_price;
+    billed_small(there) + billed_small(back)
+}
+
+// Both directions by 64 bits, the sum rounded up once.
+fn once_small(input_tokens: u32, input_price: u64, output_tokens: u32, output_price: u64) -> u64
+    requires { ⌜ «input_tokens» * «input_price» + «output_tokens» * «output_price» + costScale ≤ 2 ^ 64 ⌝ }
+    ensures { λ r. ⌜ r ≡ min maxU64 (billedBoth Once («input_tokens» * «input_price») («output_tokens» * «output_price»)) ⌝ }
+{
+    let there = (input_tokens as u64) * input_price;
+    let back = (output_tokens as u64) * output_price;
+    billed_small(there + back)
 }
 
 // Tokens times a price by two limbs.
@@ -35,20 +57,56 @@ fn exact_wide(tokens: u32, price: u64) -> Wide
 }
 
 // By the million tokens, rounded up: each division of `model_cost_reference`.
-fn rounded_up(exact: Wide) -> Wide
+fn billed_wide(exact: Wide) -> Wide
     requires { ⌜ val exact < 2 ^ 100 ⌝ }
-    ensures { λ r. ⌜ (val r ≡ (val exact + (costScale - 1)) / costScale) × (val r < 2 ^ 100) ⌝ }
+    ensures { λ r. ⌜ (val r ≡ billed (val exact)) × (val r < 2 ^ 100) ⌝ }
 {
     limbs::quotient(limbs::add(exact, limbs::of_one(COST_SCALE - 1)), COST_SCALE)
 }
 
 // Both directions by two limbs, each rounded up apart: `model_cost_reference`.
-fn cost_wide(input_tokens: u32, input_price: u64, output_tokens: u32, output_price: u64) -> u64
-    ensures { λ r. ⌜ r ≡ min maxU64 ((«input_tokens» * «input_price» + (costScale - 1)) / costScale + («output_tokens» * «output_price» + (costScale - 1)) / costScale) ⌝ }
+fn apart_wide(input_tokens: u32, input_price: u64, output_tokens: u32, output_price: u64) -> u64
+    ensures { λ r. ⌜ r ≡ min maxU64 (billedBoth Apart («input_tokens» * «input_price») («output_tokens» * «output_price»)) ⌝ }
 {
     let there = exact_wide(input_tokens, input_price);
     let back = exact_wide(output_tokens, output_price);
-    limbs::held(limbs::add(rounded_up(there), rounded_up(back)))
+    limbs::held(limbs::add(billed_wide(there), billed_wide(back)))
+}
+
+// What the sum of both directions leaves beside whole millions, rounded up: each price less its whole millions.
+fn once_rest(input_tokens: u32, input_price: u64, output_tokens: u32, output_price: u64) -> u64
+    ensures { λ r. ⌜ (r ≡ billed («input_tokens» * («input_price» % costScale) + «output_tokens» * («output_price» % costScale))) × (r < 2 ^ 62) ⌝ }
+{
+    let there_left = (input_tokens as u64) * (input_price % COST_SCALE);
+    let back_left = (output_tokens as u64) * (output_price % COST_SCALE);
+    billed_small(there_left + back_left)
+}
+
+// Both directions by two limbs, the sum rounded up once. Whole millions of a price come out of the division as they are, so that no wide number
+// is divided.
+fn once_wide(input_tokens: u32, input_price: u64, output_tokens: u32, output_price: u64) -> u64
+    ensures { λ r. ⌜ r ≡ min maxU64 (billedBoth Once («input_tokens» * «input_price») («output_tokens» * «output_price»)) ⌝ }
+{
+    let there = exact_wide(input_tokens, input_price / COST_SCALE);
+    let back = exact_wide(output_tokens, output_price / COST_SCALE);
+    let rest = once_rest(input_tokens, input_price, output_tokens, output_price);
+    limbs::held(limbs::add(limbs::add(there, back), limbs::of_one(rest)))
+}
+
+// Both directions by two limbs.
+fn cost_wide(
+    rounding: Rounding,
+    input_tokens: u32,
+    input_price: u64,
+    output_tokens: u32,
+    output_price: u64,
+) -> u64
+    ensures { λ r. ⌜ r ≡ min maxU64 (billedBoth rounding («input_tokens» * «input_price») («output_tokens» * «output_price»)) ⌝ }
+{
+    match rounding {
+        Rounding::Apart => apart_wide(input_tokens, input_price, output_tokens, output_price),
+        Rounding::Once => once_wide(input_tokens, input_price, output_tokens, output_price),
+    }
 }
 
 // What a price stays below for its tokens to be paid by 64 bits.
@@ -63,43 +121,57 @@ fn price_limit(input_tokens: u32, output_tokens: u32) -> u64
     HALF
 }
 
-// What a model costs for a request, each direction rounded up apart: `Pricing::cost`. Where both prices are small, the sum
-// needs no test: `model_cost_fast`.
-pub fn cost(model: KernelModel, input: KernelInput) -> u64
-    ensures { λ r. ⌜ r ≡ costOf model input ⌝ }
+// What a model costs for a request: `Pricing::cost`, and once. How the policy rounds is asked first, so that each way has its own limit and no
+// step of the other.
+pub fn cost(rounding: Rounding, model: KernelModel, input: KernelInput) -> u64
+    ensures { λ r. ⌜ r ≡ costOf rounding model input ⌝ }
 {
     let tokens = input.input_tokens;
     let price = model.input_cost_microunits_per_million_tokens;
     let output_tokens = input.output_tokens;
     let output_price = model.output_cost_microunits_per_million_tokens;
     let limit = price_limit(tokens, output_tokens);
+    if let Rounding::Once = rounding {
+        let half = limit / 2;
+        if price < half {
+            if output_price < half {
+                return once_small(tokens, price, output_tokens, output_price);
+            }
+        }
+        return cost_wide(rounding, tokens, price, output_tokens, output_price);
+    }
     if price < limit {
         if output_price < limit {
-            let a = billed_small(tokens, price);
-            let b = billed_small(output_tokens, output_price);
-            return a + b;
+            return apart_small(tokens, price, output_tokens, output_price);
         }
     }
-    cost_wide(tokens, price, output_tokens, output_price)
+    cost_wide(rounding, tokens, price, output_tokens, output_price)
 }
 
 // The same for callers outside a scan's loop: `cost` has one caller, so that it is compiled into that loop.
-pub fn cost_apart(model: KernelModel, input: KernelInput) -> u64
-    ensures { λ r. ⌜ r ≡ costOf model input ⌝ }
+pub fn cost_alone(rounding: Rounding, model: KernelModel, input: KernelInput) -> u64
+    ensures { λ r. ⌜ r ≡ costOf rounding model input ⌝ }
 {
     let tokens = input.input_tokens;
     let price = model.input_cost_microunits_per_million_tokens;
     let output_tokens = input.output_tokens;
     let output_price = model.output_cost_microunits_per_million_tokens;
     let limit = price_limit(tokens, output_tokens);
+    if let Rounding::Once = rounding {
+        let half = limit / 2;
+        if price < half {
+            if output_price < half {
+                return once_small(tokens, price, output_tokens, output_price);
+            }
+        }
+        return cost_wide(rounding, tokens, price, output_tokens, output_price);
+    }
     if price < limit {
         if output_price < limit {
-            let a = billed_small(tokens, price);
-            let b = billed_small(output_tokens, output_price);
-            return a + b;
+            return apart_small(tokens, price, output_tokens, output_price);
         }
     }
-    cost_wide(tokens, price, output_tokens, output_price)
+    cost_wide(rounding, tokens, price, output_tokens, output_price)
 }
 
 // A scaled price by two limbs.

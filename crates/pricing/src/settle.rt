@@ -77,11 +77,13 @@ pub fn pricing_of(policy: PolicySnapshot, input: KernelInput) -> Pricing
     ensures { λ r. ⌜ r ≡ pricingOf policy input ⌝ }
 {
     let value = gained(input.business_value_microunits);
+    let rounding = policy.rounding;
     Pricing {
         value,
         confidence_bps: input.confidence_bps,
         quality_prefix: prefix_of(value, input.confidence_bps),
         risk_penalty: share(value, input.risk_bps, policy.risk_penalty_multiplier_bps),
         latency_pen_per_ms: policy.latency_penalty_microunits_per_ms,
+        rounding,
     }
 }

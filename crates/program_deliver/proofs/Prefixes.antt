@@ -1,11 +1,13 @@
--- THE ANSWER DEPENDS ONLY ON THE FIRST 65,628 BYTES OF THE INPUT: one more than the longest input whose form passes, so that an input that is
+-- THE ANSWER DEPENDS ONLY ON THE FIRST 65,632 BYTES OF THE INPUT: one more than the longest input whose form passes, so that an input that is
 -- longer is refused by what stands in these. Assumes nothing.
-use Rattle.rules.proofs.Kit.{ℕ, zero, suc, _+_, _-_, _≤_, _<_, decLt, arith, zero-add, suc-add, _≡_, refl, sym, ap, _∙_, Bool, true, false, not, List, [], _∷_}
+use Rattle.rules.proofs.Kit.{ℕ, zero, suc, _+_, _-_, _≤_, _<_, decLt, arith, zero-add, suc-add, _≡_, refl, sym, ap, _∙_, Bool, true, false, not, List, []}
+use Rattle.rules.proofs.Kit.{_∷_}
 use Rattle.rules.proofs.Kit.{_++_, eqb-true, eqb-false, le-ltb, eq-eqb, ne-eqb, eqb, ltb, length, take, drop, length-take, length-drop, take-take, take-nil}
 use Rattle.rules.proofs.Kit.{take-all}
 use Rattle.rules.specs.{Bytes.number, Refused.Fault, Refused.Faults, Refused.fault, Refused.refuseIf, Refused.unless, Stored.fits, Stored.tagOf}
-use Rattle.rules.specs.{Stored.bodyLength, Stored.afterOf, Stored.fieldFaults, Stored.formFaults, Printed.refusedLine, Printed.programFaults}
-use Rattle.stored_fields.proofs.Lengths.{fits-policy, fits-bank, fits-request}
+use Rattle.rules.specs.{Stored.bodyLength, Stored.bodyOf, Stored.afterOf, Stored.bodyFaults, Stored.fieldFaults, Stored.formFaults, Printed.refusedLine}
+use Rattle.rules.specs.{Printed.programTags, Printed.programFaults}
+use Rattle.stored_fields.proofs.Lengths.{fits-policy, fits-bank, fits-request, fits-rounding}
 use Rattle.program_deliver.specs.Sizes.{readBytes}
 
 -- ---- tests that hand back the same first number
@@ -15,6 +17,10 @@ pub data Halted : Faults → Faults → Type 0 where
 
 pub halted-more : {fs gs : Faults} (hs ks : Faults) → Halted fs gs → Halted (fs ++ hs) (gs ++ ks)
 halted-more hs ks (both f) = both f
+
+same-front : (fs : Faults) {gs hs : Faults} → Halted gs hs → Halted (fs ++ gs) (fs ++ hs)
+same-front [] h = h
+same-front (f ∷ fs) h = both f
 
 pub halted-text : {fs gs : Faults} (t u : List ℕ) → Halted fs gs → unless fs refusedLine t ≡ unless gs refusedLine u
 halted-text t u (both f) = refl
@@ -44,6 +50,7 @@ module _ (tag : ℕ) (s : List ℕ) (head : 3 ≤ length s) where
   with-header : fieldFaults tag s
       ≡ refuseIf (not (eqb (tagOf s) tag)) (fault 21) ++ refuseIf (not (fits tag (bodyLength s))) (fault 22)
       ++ refuseIf (ltb (length s) (3 + bodyLength s)) (fault 20)
+      ++ bodyFaults tag (bodyOf s)
   unfolding fieldFaults
   with-header = rw (ne-eqb (length s) 0 (λ e. omega arith), le-ltb (length s) 3 head)
 
@@ -53,8 +60,8 @@ module _ (tag : ℕ) (s : List ℕ) (head : 3 ≤ length s) where
   starts-length : tagOf s ≡ tag → fits tag (bodyLength s) ≡ false → Starts (fault 22) (fieldFaults tag s)
   starts-length e g = rw (with-header, eq-eqb (tagOf s) tag e, g) starts
 
-  no-fault : tagOf s ≡ tag → fits tag (bodyLength s) ≡ true → 3 + bodyLength s ≤ length s → fieldFaults tag s ≡ []
-  no-fault e g h = with-header ∙ rw (eq-eqb (tagOf s) tag e, g, le-ltb (length s) (3 + bodyLength s) h)
+  body-alone : tagOf s ≡ tag → fits tag (bodyLength s) ≡ true → 3 + bodyLength s ≤ length s → fieldFaults tag s ≡ bodyFaults tag (bodyOf s)
+  body-alone e g h = with-header ∙ rw (eq-eqb (tagOf s) tag e, g, le-ltb (length s) (3 + bodyLength s) h)
 
 after-length : (s : List ℕ) → length (afterOf s) ≡ length s - (3 + bodyLength s)
 unfolding afterOf
@@ -68,36 +75,43 @@ module _ (tag n : ℕ) (tags s : List ℕ) (long : n ≤ length s) (head : 3 ≤
   tag-same : tagOf (take n s) ≡ tagOf s
   tag-same = ap number (take-take 1 n s (omega arith))
 
-  body-same : bodyLength (take n s) ≡ bodyLength s
-  body-same = ap (λ (x : List ℕ). number (take 2 x)) (drop-part 1 n s (omega arith)) ∙ ap number (take-take 2 (n - 1) (drop 1 s) (omega arith))
+  length-same : bodyLength (take n s) ≡ bodyLength s
+  length-same = ap (λ (x : List ℕ). number (take 2 x)) (drop-part 1 n s (omega arith)) ∙ ap number (take-take 2 (n - 1) (drop 1 s) (omega arith))
 
   after-same : 3 + bodyLength s ≤ n → afterOf (take n s) ≡ take (n - (3 + bodyLength s)) (afterOf s)
   unfolding afterOf
-  after-same h = rw body-same (drop-part (3 + bodyLength s) n s h)
+  after-same h = rw length-same (drop-part (3 + bodyLength s) n s h)
+
+  body-same : 3 + bodyLength s ≤ n → bodyOf (take n s) ≡ bodyOf s
+  unfolding bodyOf
+  body-same h =
+      ap (λ k. take k (drop 3 (take n s))) length-same
+      ∙ ap (take (bodyLength s)) (drop-part 3 n s (omega arith))
+      ∙ take-take (bodyLength s) (n - 3) (drop 3 s) (omega arith)
 
   field-step : (t f : Bool) → eqb (tagOf s) tag ≡ t → fits tag (bodyLength s) ≡ f → (f ≡ true → 3 + bodyLength s ≤ n)
       → (f ≡ true → Halted (formFaults tags (take (n - (3 + bodyLength s)) (afterOf s))) (formFaults tags (afterOf s)))
-      → Halted (formFaults (tag ∷ tags) (take n s)) (formFaults (tag ∷ tags) s)
-  unfolding formFaults
+      → Halted (fieldFaults tag (take n s) ++ formFaults tags (afterOf (take n s))) (fieldFaults tag s ++ formFaults tags (afterOf s))
   field-step false f e g room rest =
       let other : tagOf s ≡ tag → ⊥ = eqb-false (tagOf s) tag e in
       halted-more _ _ (join (starts-tag tag (take n s) (omega (arith, part-length)) (λ p. other (sym tag-same ∙ p))) (starts-tag tag s (omega arith) other))
   field-step true false e g room rest =
       let same : tagOf s ≡ tag = eqb-true (tagOf s) tag e in
       halted-more _ _
-      (join (starts-length tag (take n s) (omega (arith, part-length)) (tag-same ∙ same) (ap (fits tag) body-same ∙ g))
+      (join (starts-length tag (take n s) (omega (arith, part-length)) (tag-same ∙ same) (ap (fits tag) length-same ∙ g))
       (starts-length tag s (omega arith) same g))
   field-step true true e g room rest =
       let same : tagOf s ≡ tag = eqb-true (tagOf s) tag e in
       let h = room refl in
       rw (
-        no-fault tag (take n s) (omega (arith, part-length)) (tag-same ∙ same) (ap (fits tag) body-same ∙ g) (omega (arith, part-length, body-same, h)),
-        no-fault tag s (omega arith) same g (omega (arith, h)),
+        body-alone tag (take n s) (omega (arith, part-length)) (tag-same ∙ same) (ap (fits tag) length-same ∙ g) (omega (arith, part-length, length-same, h)),
+        body-alone tag s (omega arith) same g (omega (arith, h)),
+        body-same h,
         after-same h,
       )
-      (rest refl)
+      (same-front (bodyFaults tag (bodyOf s)) (rest refl))
 
--- ---- the three fields, and a byte after them
+-- ---- the fields, and a byte after them
 
 end-step : (n : ℕ) (s : List ℕ) → 1 ≤ n → n ≤ length s → Halted (formFaults [] (take n s)) (formFaults [] s)
 unfolding formFaults
@@ -105,29 +119,48 @@ end-step n s h long =
     let part : length (take n s) ≡ n = simp length-take (omega arith) in
     rw (ne-eqb (length (take n s)) 0 (λ e. omega (arith, part)), ne-eqb (length s) 0 (λ e. omega arith)) (both (fault 21))
 
-third : (n : ℕ) (s : List ℕ) → 74 ≤ n → n ≤ length s → Halted (formFaults (3 ∷ []) (take n s)) (formFaults (3 ∷ []) s)
-third n s h long =
+request-step : (n : ℕ) (s : List ℕ) → 74 ≤ n → n ≤ length s → Halted (formFaults (3 ∷ []) (take n s)) (formFaults (3 ∷ []) s)
+unfolding formFaults
+request-step n s h long =
     field-step 3 n [] s long (omega arith) (eqb (tagOf s) 3) (fits 3 (bodyLength s)) refl refl
     (λ e. omega (arith, fits-request _ e))
     (λ e. end-step (n - (3 + bodyLength s)) (afterOf s) (omega (arith, fits-request _ e)) (omega (arith, after-length s, long)))
 
-second : (n : ℕ) (s : List ℕ) → 65595 ≤ n → n ≤ length s → Halted (formFaults (2 ∷ 3 ∷ []) (take n s)) (formFaults (2 ∷ 3 ∷ []) s)
-second n s h long =
-    field-step 2 n (3 ∷ []) s long (omega arith) (eqb (tagOf s) 2) (fits 2 (bodyLength s)) refl refl
-    (λ e. let b = fits-bank _ e in omega (arith, b .0, b .1))
-    (λ e. let b = fits-bank _ e in third (n - (3 + bodyLength s)) (afterOf s) (omega (arith, b .0, b .1)) (omega (arith, after-length s, long)))
+-- tag 4 stands there or is left out, of the part as of the whole
+rounding-step : (n : ℕ) (s : List ℕ) → 78 ≤ n → n ≤ length s → Halted (formFaults (4 ∷ 3 ∷ []) (take n s)) (formFaults (4 ∷ 3 ∷ []) s)
+unfolding formFaults
+rounding-step n s h long = go (eqb (tagOf s) 4) refl
+  where
+    front : tagOf (take n s) ≡ tagOf s
+    front = tag-same 4 n [] s long (omega arith)
 
-first : (s : List ℕ) → readBytes ≤ length s → Halted (formFaults (1 ∷ 2 ∷ 3 ∷ []) (take readBytes s)) (formFaults (1 ∷ 2 ∷ 3 ∷ []) s)
-first s long =
-    field-step 1 readBytes (2 ∷ 3 ∷ []) s long (omega arith) (eqb (tagOf s) 1) (fits 1 (bodyLength s)) refl refl
+    go : (t : Bool) → eqb (tagOf s) 4 ≡ t → Halted (formFaults (4 ∷ 3 ∷ []) (take n s)) (formFaults (4 ∷ 3 ∷ []) s)
+    go false e = rw (front, e) (request-step n s (omega arith) long)
+    go true e =
+        rw (front, e)
+        (field-step 4 n (3 ∷ []) s long (omega arith) true (fits 4 (bodyLength s)) e refl
+        (λ f. omega (arith, fits-rounding _ f))
+        (λ f. request-step (n - (3 + bodyLength s)) (afterOf s) (omega (arith, fits-rounding _ f)) (omega (arith, after-length s, long))))
+
+bank-step : (n : ℕ) (s : List ℕ) → 65599 ≤ n → n ≤ length s → Halted (formFaults (2 ∷ 4 ∷ 3 ∷ []) (take n s)) (formFaults (2 ∷ 4 ∷ 3 ∷ []) s)
+unfolding formFaults
+bank-step n s h long =
+    field-step 2 n (4 ∷ 3 ∷ []) s long (omega arith) (eqb (tagOf s) 2) (fits 2 (bodyLength s)) refl refl
+    (λ e. let b = fits-bank _ e in omega (arith, b .0, b .1))
+    (λ e. let b = fits-bank _ e in rounding-step (n - (3 + bodyLength s)) (afterOf s) (omega (arith, b .0, b .1)) (omega (arith, after-length s, long)))
+
+policy-step : (s : List ℕ) → readBytes ≤ length s → Halted (formFaults programTags (take readBytes s)) (formFaults programTags s)
+unfolding formFaults
+policy-step s long =
+    field-step 1 readBytes (2 ∷ 4 ∷ 3 ∷ []) s long (omega arith) (eqb (tagOf s) 1) (fits 1 (bodyLength s)) refl refl
     (λ e. omega (arith, fits-policy _ e))
-    (λ e. second (readBytes - (3 + bodyLength s)) (afterOf s) (omega (arith, fits-policy _ e)) (omega (arith, after-length s, long)))
+    (λ e. bank-step (readBytes - (3 + bodyLength s)) (afterOf s) (omega (arith, fits-policy _ e)) (omega (arith, after-length s, long)))
 
 -- ---- the answers
 
 pub program-halted : (s : List ℕ) → readBytes ≤ length s → Halted (programFaults (take readBytes s)) (programFaults s)
 unfolding programFaults
-program-halted s long = halted-more _ _ (halted-more _ _ (halted-more _ _ (first s long)))
+program-halted s long = halted-more _ _ (halted-more _ _ (halted-more _ _ (policy-step s long)))
 
 -- Of any answer: where the input is shorter, its part is all of it
 pub by-length : (answer : List ℕ → List ℕ) (s : List ℕ) → (readBytes ≤ length s → answer (take readBytes s) ≡ answer s) → answer (take readBytes s) ≡ answer s

@@ -1,3 +1,3 @@
--- Laws of the programs' input, which callers cite, and rows on its size.
+-- Laws of the programs' input, which callers cite.
 pub mod Tests
-mod Sizes
+pub mod Before

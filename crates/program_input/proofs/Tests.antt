@@ -2,27 +2,34 @@
 use Rattle.rules.proofs.Kit.{lt-ltb, le-ltb, eq-eqb, ℕ, _/_, _%_, _≤_, _<_, _≡_, refl, ap, _∙_, List, [], _∷_, Option, length, arith}
 use Rattle.rules.specs.{Limits.recordBytes, Limits.maxProgramModels, Limits.maxCatalogModels, Records.recordsIn, Records.listedOf, Refused.Fault}
 use Rattle.rules.specs.{Refused.bankFaults, Refused.lengthFaults, Refused.orElse, Refused.firstFault, Refused.toldOutcome, Decide.requestFaults}
-use Rattle.rules.specs.{Validate.catalogFaults, Stored.bodyLength, Stored.afterOf, Stored.formFaults, Stored.storedPolicy, Stored.storedBank}
+use Rattle.rules.specs.{Validate.catalogFaults, Stored.bodyLength, Stored.afterOf, Stored.dueFaults, Stored.afterDue}
+use Rattle.rules.specs.{Stored.formFaults, Stored.storedPolicy, Stored.storedBank, Printed.programTags}
 use Rattle.rules.specs.{Printed.programModels, Printed.programRequest, Printed.programFaults, declared.records.KernelInput.KernelInput}
 use Rattle.rules.specs.{declared.records.PolicySnapshot.PolicySnapshot, declared.refusal.Refusal.Refusal, declared.refusal.Outcome.Outcome}
 use Rattle.rules.specs.{declared.refusal.Outcome.the-variants.Answered, declared.refusal.Outcome.the-variants.Refused}
 use Rattle.rules.proofs.Faults.{none-first, append-refused, joined-told}
-use Rattle.stored_fields.proofs.{OneField.Passed, OneField.body-length, Forms.form-passed, Lengths.fits-bank}
+use Rattle.stored_fields.proofs.{OneField.Passed, OneField.body-length, Forms.form-passed, Forms.form-due, Lengths.fits-bank}
 use Rattle.program_input.specs.Formed.{Formed, formedFaults}
 use Rattle.rules.specs.declared.refusal.Refusal.the-variants as refusal
 
--- AN INPUT THAT PASSES HAS ITS THREE FIELDS
+-- What stands after the catalogue of an input
+abbrev pub afterBank : List ℕ → List ℕ
+afterBank input = afterOf (afterOf input)
+
+-- AN INPUT THAT PASSES HAS ITS FIELDS, tag 4 among them or not
 pub record Fields (input : List ℕ) : Type 0 where
   pub policy : Passed 1 input
   pub bank : Passed 2 (afterOf input)
-  pub request : Passed 3 (afterOf (afterOf input))
+  pub rounding : dueFaults 4 (afterBank input) ≡ []
+  pub request : Passed 3 (afterDue 4 (afterBank input))
 
 pub fields : (input : List ℕ) → Formed input → Fields input
 fields input e =
-    let first = form-passed 1 (2 ∷ 3 ∷ []) input e in
-    let second = form-passed 2 (3 ∷ []) (afterOf input) (first .1) in
-    let third = form-passed 3 [] (afterOf (afterOf input)) (second .1) in
-    record { policy = first .0; bank = second .0; request = third .0 }
+    let first = form-passed 1 (2 ∷ 4 ∷ 3 ∷ []) input refl e in
+    let second = form-passed 2 (4 ∷ 3 ∷ []) (afterOf input) refl (first .1) in
+    let third = form-due 4 (3 ∷ []) (afterBank input) (second .1) in
+    let fourth = form-passed 3 [] (afterDue 4 (afterBank input)) refl (third .1) in
+    record { policy = first .0; bank = second .0; rounding = third .0; request = fourth .0 }
 
 -- and its bank has whole records, no more than a catalogue's
 pub bank-whole : (input : List ℕ) → Formed input → bankFaults (storedBank input) ≡ []
@@ -59,7 +66,7 @@ module _ {bank : List ℕ} (input : List ℕ) (formed : Formed input) (is : bank
 -- An input that passes those is formed
 pub formed-whole : (input : List ℕ) → formedFaults input ≡ [] → Formed input
 unfolding formedFaults
-formed-whole input e = none-first (formFaults (1 ∷ 2 ∷ 3 ∷ []) input) _ e
+formed-whole input e = none-first (formFaults programTags input) _ e
 
 pub program-formed : (input : List ℕ) → programFaults input ≡ [] → Formed input
 unfolding programFaults formedFaults

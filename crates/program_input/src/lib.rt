@@ -6,7 +6,7 @@ ghost use Rattle.rules.specs.Stored.{storedPolicy, storedBank};
 ghost use Rattle.rules.specs.Printed.{programRequest, programFaults};
 ghost use Rattle.program_input.specs.Formed.{Formed, formedFaults};
 use bank::unchecked::input_of;
-use bank::unchecked::policy_of;
+use bank::unchecked::policy_with;
 use call_checks::refuse::first_refused;
 use call_checks::refuse::input_outcome;
 use catalogue::validation::catalog_outcome;
@@ -19,16 +19,20 @@ use rules::limits::RECORD_BYTES;
 use stored_fields::BANK_TAG;
 use stored_fields::POLICY_TAG;
 use stored_fields::REQUEST_TAG;
+use stored_fields::ROUNDING_TAG;
+use stored_fields::after_due;
 use stored_fields::after_front;
 use stored_fields::front_body;
 use stored_fields::lay_out;
+use stored_fields::rounding_in;
 
-// Tag 1: the policy.
+// Tags 1 and 4: the policy.
 pub fn policy_in(input: &[u8]) -> PolicySnapshot
     requires { ⌜ Formed (now input) ⌝ }
     ensures { λ r. ⌜ r ≡ storedPolicy (now (input .entry)) ⌝ }
 {
-    policy_of(front_body(input))
+    let rounding = rounding_in(input);
+    policy_with(rounding, front_body(input))
 }
 
 // Tag 2: the bank.
@@ -44,15 +48,15 @@ pub fn request_in(input: &[u8]) -> KernelInput
     requires { ⌜ Formed (now input) ⌝ }
     ensures { λ r. ⌜ r ≡ programRequest (now (input .entry)) ⌝ }
 {
-    let rest = after_front(after_front(input));
+    let rest = after_due(after_front(after_front(input)), ROUNDING_TAG);
     input_of(front_body(rest))
 }
 
-// 20 to 22 over all three fields, then 19.
+// 20 to 23 over all fields, then 19.
 fn formed_outcome(input: &[u8]) -> Outcome
     ensures { λ r. ⌜ toldOutcome r ≡ firstFault (formedFaults (now (input .entry))) ⌝ }
 {
-    let tags = [POLICY_TAG, BANK_TAG, REQUEST_TAG];
+    let tags = [POLICY_TAG, BANK_TAG, ROUNDING_TAG, REQUEST_TAG];
     let outcome = lay_out(input, &tags);
     if let Outcome::Refused(refusal) = outcome {
         return Outcome::Refused(refusal);
@@ -64,7 +68,7 @@ fn formed_outcome(input: &[u8]) -> Outcome
     Outcome::Answered
 }
 
-// Whether the programs answer an input, and if not, why: 20 to 22, 19, validation, 3.
+// Whether the programs answer an input, and if not, why: 20 to 23, 19, validation, 3.
 pub fn program_outcome(input: &[u8]) -> Outcome
     ensures { λ r. ⌜ toldOutcome r ≡ firstFault (programFaults (now (input .entry))) ⌝ }
 {

@@ -93,5 +93,5 @@ unfolding countsOf countsFrom raisedBy
 counts-sum p q [] = refl
 counts-sum p q (l ∷ ls) =
     let js = judged p q ls in
-    one-more (countsFrom (reasonsOf js)) (candidateOf (judge p q l)) (eligibles js) (verdictOf p q (l .model)) (verdict-told p q (l .model))
+    one-more (countsFrom (reasonsOf js)) (candidateOf (judge p q l)) (eligibles js) (verdictOf p q (l .model)) (verdict-told p q (l .model) _)
     ∙ ap suc (counts-sum p q ls)

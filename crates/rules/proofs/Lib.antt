@@ -26,3 +26,4 @@ pub mod Vectors
 pub mod BoundaryRows
 pub mod Loading
 pub mod Printing
+pub mod RoundingRows

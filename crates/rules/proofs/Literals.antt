@@ -2,6 +2,7 @@
 use Rattle.rules.proofs.Kit.{ℕ, List, [], _∷_, negsuc}
 use Rattle.rules.specs.{declared.records.KernelModel.KernelModel, declared.records.KernelInput.KernelInput}
 use Rattle.rules.specs.{declared.records.PolicySnapshot.PolicySnapshot}
+use Rattle.rules.specs.declared.records.Rounding.the-variants.{Apart}
 
 -- a different byte in every place of a record, and what they say
 abbrev pub modelBytes47 : List ℕ
@@ -67,6 +68,7 @@ policySaid =
       «minimum_confidence_bps» = 56539;
       «risk_penalty_multiplier_bps» = 57053;
       «latency_penalty_microunits_per_ms» = 16637956065805328607;
+      rounding = Apart;
     }
 
 -- four records, one for each verdict, whose terms pass 2 ^ 64

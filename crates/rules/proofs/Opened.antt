@@ -1,7 +1,10 @@
 -- Every rule opened, for the rows to compute: `unfolding rules` opens all that the lines below name. Assumes nothing.
-use Rattle.rules.specs.{Choice.below, Choice.atLeast, Choice.equal, Choice.lower, Choice.higher, Bytes.number, Bytes.bytesOf, Bytes.packed, Bytes.filled}
-use Rattle.rules.specs.{Records.modelOf, Records.inputOf, Records.policyOf, Records.listedOf, Stored.fieldBytes, Stored.fits, Stored.bodyOf}
-use Rattle.rules.specs.{Stored.afterOf, Stored.fieldFaults, Stored.formFaults, Stored.storedForm, Stored.requestForm, Stored.writeFaults}
+use Rattle.rules.specs.{Choice.below, Choice.atLeast, Choice.equal, Choice.lower, Choice.higher, Bytes.number, Bytes.bytesOf, Bytes.packed}
+use Rattle.rules.specs.{Bytes.filled}
+use Rattle.rules.specs.{Records.modelOf, Records.inputOf, Records.policyWith, Records.policyOf, Records.listedOf, Stored.fieldBytes, Stored.fits}
+use Rattle.rules.specs.{Stored.bodyOf, Stored.bodyFaults, Stored.policySizeFaults}
+use Rattle.rules.specs.{Stored.roundingFaults, Stored.readPolicyOf, Stored.roundingField, Stored.afterOf, Stored.fieldFaults, Stored.formFaults}
+use Rattle.rules.specs.{Stored.storedForm, Stored.requestForm, Stored.writeFaults}
 use Rattle.rules.specs.{Stored.writeStoredOf, Stored.writeStoredBuffer, Stored.readFaults, Stored.readStoredOf, Stored.readStoredBuffer}
 use Rattle.rules.specs.{Stored.writeRequestOf, Stored.writeRequestBuffer, Stored.readRequestOf, Refused.firstFault, Refused.lengthFaults}
 use Rattle.rules.specs.{Refused.roomFaults, Listing.readingFaults, Listing.readingOf, Listing.recordOf, Listing.recordStart, Listing.firstListed}
@@ -9,20 +12,23 @@ use Rattle.rules.specs.{Listing.findOf, Decide.requestFaults, Decide.req
 use Rattle.rules.specs.{Validate.providerFaults, Validate.modelFaults, Validate.recordFaults, Validate.recordsFaults, Validate.offFaults}
 use Rattle.rules.specs.{Validate.catalogFaults, Validate.validateOf, Trust.reservedFaults, Trust.flagFaults, Trust.earlyFaults, Trust.recordsFrom}
 use Rattle.rules.specs.{Trust.joined, Trust.idOf, Trust.orderedOf, Trust.trustOf, Trust.trustBank, Gates.gateOf, Gates.detailOf, Price.billed}
+use Rattle.rules.specs.{Price.billedBoth}
 use Rattle.rules.specs.{Price.costOf, Price.scaledPrice, Utility.shareOf, Utility.qualityTermOf, Utility.riskTermOf, Utility.latencyTermOf}
-use Rattle.rules.specs.{Utility.exactUtilityOf, Utility.utilityOf, Verdict.byUtility, Verdict.verdictOf, Rank.better, Rank.ranking, Count.gateReason}
+use Rattle.rules.specs.{Utility.exactUtilityOf, Utility.utilityOf, Verdict.byUtility, Verdict.verdictCosting, Rank.better, Rank.ranking}
+use Rattle.rules.specs.{Count.gateReason}
 use Rattle.rules.specs.{Count.countedFor, Count.raisedBy, Count.countsFrom, Count.countsOf, Count.heavier, Count.dominantOf, Decide.stoppedBy}
-use Rattle.rules.specs.{Decide.rejection, Decide.executedAs, Decide.chosen, Decide.byVerdicts, Decide.decisionOf, Decide.countsIn, Decide.traceOf}
+use Rattle.rules.specs.{Decide.rejection, Decide.executedAs, Decide.chosen, Decide.byVerdicts, Decide.decisionBy, Decide.countsIn, Decide.traceOf}
 use Rattle.rules.specs.{Decide.prescribeOf, Decide.prescribeCheckedOf, Decide.prescribeTracedOf, Decide.prescribeTracedCheckedOf, Decide.utilityIn}
 use Rattle.rules.specs.{Decide.utilityForModelOf, Explain.explanationRecord, Explain.explained, Explain.explanationOf, Explain.explainFaults}
 use Rattle.rules.specs.{Explain.explainOf, Explain.explainList, Explain.verdictAt, Explain.eligibleFrom, Explain.nextEligibleOf, Batch.batchFaults}
 use Rattle.rules.specs.{Batch.requestsFaults, Batch.batchCheckedFaults, Batch.decisionsOf, Batch.batchOf, Batch.batchRow, Batch.batchCheckedOf}
 use Rattle.rules.specs.{Batch.batchCheckedRow, Halving.halveIn, Halving.searchOf, Halving.searchAfterFarEnd, Levers.leverAt, Levers.selects}
 use Rattle.rules.specs.{Levers.varied, Levers.decisionAt, Levers.wins, Levers.boundaryOf, View.withModel, View.viewOf, Win.winLevers, Win.winSearch}
-use Rattle.rules.specs.{Win.winFor, Win.winIn, Win.whatWouldWinOf, Margin.marginLevers, Margin.marginFor, Margin.marginIn, Margin.decisionMarginOf}
+use Rattle.rules.specs.{Win.winFor, Win.winBy, Win.whatWouldWinOf, Margin.marginLevers, Margin.marginFor, Margin.marginBy, Margin.decisionMarginOf}
 use Rattle.rules.specs.{Text.text, Text.digitsOf, Text.decimal, Text.signedDecimal, Text.spaced, Text.line, Printed.decisionLine, Printed.countsLine}
 use Rattle.rules.specs.{Printed.costText, Printed.leverLine, Printed.leverLines, Printed.passesLine, Printed.refusedLine, Printed.programFaults}
-use Rattle.rules.specs.{Printed.unitReport, Printed.unitText, Printed.askFaults, Printed.askReport, Printed.askText, Printed.printOf, Printed.printBuffer}
+use Rattle.rules.specs.{Printed.unitReport, Printed.unitText, Printed.askFaults, Printed.askReport, Printed.askText, Printed.printOf}
+use Rattle.rules.specs.{Printed.printBuffer}
 use Rattle.rules.specs.{Words.sentence, Words.digit, Words.percent, Words.riseWords, Words.latencyWords, Words.costWords, Words.priceWords}
 use Rattle.rules.specs.{Words.switchWords, Words.leverWords, Words.leversWords, Words.stoppedWords, Words.chosenWords, Words.offWords, Words.noneWords}
 use Rattle.rules.specs.{Words.nothingWords, Words.wordsReport, Words.askWords}
@@ -30,11 +36,11 @@ use Rattle.rules.specs.{Words.nothingWords, Words.wordsReport, Words.ask
 -- ---- bytes: numbers, records, banks
 
 bytes : Unit {0}
-unfolding below atLeast equal lower higher number bytesOf packed filled modelOf inputOf policyOf listedOf
+unfolding below atLeast equal lower higher number bytesOf packed filled modelOf inputOf policyWith policyOf listedOf
 bytes = tt
 
 forms : Unit {0}
-unfolding fieldBytes fits bodyOf afterOf fieldFaults formFaults storedForm requestForm
+unfolding fieldBytes fits bodyOf afterOf bodyFaults fieldFaults formFaults policySizeFaults roundingFaults readPolicyOf roundingField storedForm requestForm
 forms = tt
 
 writing : Unit {0}
@@ -58,7 +64,7 @@ trusting = tt
 -- ---- deciding: one record, the list of them, the calls
 
 judging : Unit {0}
-unfolding gateOf detailOf billed costOf scaledPrice shareOf qualityTermOf riskTermOf latencyTermOf exactUtilityOf utilityOf byUtility verdictOf
+unfolding gateOf detailOf billed billedBoth costOf scaledPrice shareOf qualityTermOf riskTermOf latencyTermOf exactUtilityOf utilityOf byUtility verdictCosting
 judging = tt
 
 ordering : Unit {0}
@@ -66,7 +72,7 @@ unfolding better ranking gateReason countedFor raisedBy countsFrom countsOf heav
 ordering = tt
 
 deciding : Unit {0}
-unfolding stoppedBy rejection executedAs chosen byVerdicts decisionOf countsIn traceOf
+unfolding stoppedBy rejection executedAs chosen byVerdicts decisionBy countsIn traceOf
 deciding = tt
 
 prescribing : Unit {0}
@@ -88,7 +94,7 @@ unfolding halveIn searchOf searchAfterFarEnd leverAt selects varied decisionAt w
 searching = tt
 
 bounding : Unit {0}
-unfolding winLevers winSearch winFor winIn whatWouldWinOf marginLevers marginFor marginIn decisionMarginOf
+unfolding winLevers winSearch winFor winBy whatWouldWinOf marginLevers marginFor marginBy decisionMarginOf
 bounding = tt
 
 -- ---- what is printed: numbers, lines, the programs' answers

@@ -1,5 +1,5 @@
--- Rows on the stored form, the request form, and what the programs print. Those on the largest banks take long to compute and stand in `stored` and
--- `program_input`, which are proved less often. Assumes nothing.
+-- Rows on the stored form, the request form, and what the programs print. Those on the largest banks take long to compute and stand in
+-- `volankizo`, which no edit proves again. Assumes nothing.
 use Rattle.rules.proofs.Kit.{ℕ, refl, List, [], _∷_, _++_, none, some, pos, negsuc, length, replicate, take}
 use Prim.Native.String.{String}
 use Rattle.rules.specs.{Records.policyOf, Records.inputOf, Refused.Answer, Refused.refused, Refused.answered, Refused.fault}
@@ -11,16 +11,16 @@ use Rattle.rules.proofs.{Opened.rules, Rows.Row, Rows.says, Example.mod
 use Rattle.rules.proofs.{Example.with, Example.uneven, Example.atHardLimit, Example.decision, Example.counts, Example.lever}
 
 -- the example's three fields
-abbrev policyField : List ℕ
+abbrev pub policyField : List ℕ
 policyField = 1 ∷ 30 ∷ 0 ∷ policy
 
-abbrev bankField : List ℕ
+abbrev pub bankField : List ℕ
 bankField = 2 ∷ 94 ∷ 0 ∷ bank
 
 abbrev pub requestField : List ℕ
 requestField = 3 ∷ 70 ∷ 0 ∷ request
 
-abbrev form : List ℕ
+abbrev pub form : List ℕ
 form = policyField ++ bankField
 
 -- ---- stored forms
@@ -29,14 +29,14 @@ form = policyField ++ bankField
 abbrev written : List ℕ → List ℕ → Answer ℕ × List ℕ
 written b buffer = (writeStoredOf (policyOf policy) b (length buffer), writeStoredBuffer (policyOf policy) b buffer)
 
-abbrev read : List ℕ → List ℕ → Answer StoredPolicy × List ℕ
+abbrev pub read : List ℕ → List ℕ → Answer StoredPolicy × List ℕ
 read s buffer = (readStoredOf s (length buffer), readStoredBuffer s buffer)
 
 -- reading into a hundred bytes of 255, and a refusal that leaves them
-abbrev marked : List ℕ → Answer StoredPolicy × List ℕ
+abbrev pub marked : List ℕ → Answer StoredPolicy × List ℕ
 marked s = read s (replicate 100 255)
 
-abbrev unread : ℕ → Answer StoredPolicy × List ℕ
+abbrev pub unread : ℕ → Answer StoredPolicy × List ℕ
 unread n = (refused (fault n), replicate 100 255)
 
 storedRows : List Row
@@ -87,7 +87,7 @@ requestRows =
 abbrev pub is : String → List ℕ
 is s = text s ++ (10 ∷ [])
 
-abbrev input : List ℕ
+abbrev pub input : List ℕ
 input = form ++ requestField
 
 abbrev inputOfBank : List ℕ → List ℕ → List ℕ

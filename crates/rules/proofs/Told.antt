@@ -2,7 +2,8 @@
 use Rattle.rules.proofs.Kit.{ℕ, _-_, _≡_, refl, sym, ap, ap₂, _∙_, List, [], _∷_, map, Option, none, some, ℤ, getD}
 use Rattle.rules.specs.{Refused.Fault, Refused.toldRefusal, Refused.toldOutcome, Refused.toldTrusted, Refused.Answer, Refused.refused, Refused.answered}
 use Rattle.rules.specs.{Numbers.actionNo, Numbers.reasonNo, Numbers.Decision, Numbers.toldDecision, Numbers.toldPrescribed, Numbers.DecisionAndTrace}
-use Rattle.rules.specs.{Numbers.toldTraced, Numbers.toldUtility, Numbers.toldFound, Numbers.toldNext, Numbers.Entry, Numbers.toldCost, Numbers.toldEntry}
+use Rattle.rules.specs.{Numbers.toldTraced, Numbers.toldUtility, Numbers.toldFound, Numbers.toldNext, Numbers.Entry, Numbers.toldCost}
+use Rattle.rules.specs.{Numbers.toldEntry}
 use Rattle.rules.specs.{Numbers.Boundary, Numbers.toldBoundaries, declared.refusal.Refusal.Refusal, declared.refusal.Outcome.Outcome}
 use Rattle.rules.specs.{declared.refusal.Trusted.Trusted, declared.decision.KernelAction.KernelAction, declared.decision.KernelReason.KernelReason}
 use Rattle.rules.specs.{declared.decision.KernelDecision.KernelDecision, declared.decision.Prescribed.Prescribed, declared.decision.Traced.Traced}
@@ -51,6 +52,7 @@ refusalFrom f =
     ∷ refusal.CutShort
     ∷ refusal.WrongTag
     ∷ refusal.WrongLength
+    ∷ refusal.UnknownRounding
     ∷ [])
     (f .number)
     refusal.UnevenBank
@@ -77,6 +79,7 @@ refusal-back refusal.TooManyForProgram = refl
 refusal-back refusal.CutShort = refl
 refusal-back refusal.WrongTag = refl
 refusal-back refusal.WrongLength = refl
+refusal-back refusal.UnknownRounding = refl
 
 abbrev pub outcomeFrom : Option Fault → Outcome
 outcomeFrom none = outcome.Answered

@@ -1,12 +1,23 @@
--- What document 01 tells of reading and writing a stored form determines the answer, as in `Told`. Assumes nothing.
+-- What the documents tell of reading and writing a policy, a stored form and a request form determines the answer, as in `Told`. Assumes nothing.
 use Rattle.rules.proofs.Kit.{ℕ, _≡_, refl, ap}
-use Rattle.rules.specs.{Refused.Answer, Refused.refused, Refused.answered, Numbers.StoredPolicy, Numbers.toldStored, Numbers.toldRequest}
+use Rattle.rules.specs.{Refused.Answer, Refused.refused, Refused.answered, Numbers.StoredPolicy, Numbers.toldPolicy, Numbers.toldStored}
+use Rattle.rules.specs.{Numbers.toldRequest}
 use Rattle.rules.specs.{Numbers.toldWritten, declared.records.KernelInput.KernelInput, declared.forms.StoredRead.StoredRead}
-use Rattle.rules.specs.{declared.forms.RequestRead.RequestRead, declared.forms.Written.Written}
+use Rattle.rules.specs.{declared.forms.RequestRead.RequestRead, declared.forms.Written.Written, declared.forms.PolicyRead.PolicyRead}
+use Rattle.rules.specs.{declared.records.PolicySnapshot.PolicySnapshot}
 use Rattle.rules.proofs.Told.{one-answer, Determined, refusalFrom, refusal-back}
+use Rattle.rules.specs.declared.forms.PolicyRead.the-variants as policy
 use Rattle.rules.specs.declared.forms.StoredRead.the-variants as stored
 use Rattle.rules.specs.declared.forms.RequestRead.the-variants as request
 use Rattle.rules.specs.declared.forms.Written.the-variants as written
+
+abbrev pub policyFrom : Answer PolicySnapshot → PolicyRead
+policyFrom (refused f) = policy.Refused (refusalFrom f)
+policyFrom (answered p) = policy.Read p
+
+pub policy-back : (a : PolicyRead) → policyFrom (toldPolicy a) ≡ a
+policy-back (policy.Refused r) = ap policy.Refused (refusal-back r)
+policy-back (policy.Read p) = refl
 
 abbrev pub storedFrom : Answer StoredPolicy → StoredRead
 storedFrom (refused f) = stored.Refused (refusalFrom f)
@@ -31,6 +42,9 @@ writtenFrom (answered n) = written.Bytes n
 pub written-back : (a : Written) → writtenFrom (toldWritten a) ≡ a
 written-back (written.Refused r) = ap written.Refused (refusal-back r)
 written-back (written.Bytes n) = refl
+
+pub one-policy : Determined toldPolicy
+one-policy = one-answer toldPolicy policyFrom policy-back
 
 pub one-stored : Determined toldStored
 one-stored = one-answer toldStored storedFrom stored-back

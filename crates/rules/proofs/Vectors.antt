@@ -1,11 +1,15 @@
 -- Rows beyond document 01's, for what those leave open: every field of every layout, each gate and what it measured, the order of the
 -- counts and of the reasons, each key of the ranking, the clamps and the refusals. Assumes nothing.
 use Rattle.rules.proofs.Kit.{ℕ, zero, suc, _+_, _-_, _*_, _^_, refl, List, [], _∷_, _++_, map, none, some, ℤ, pos, negsuc, replicate}
-use Rattle.rules.specs.{Records.modelOf, Records.modelBytes, Records.inputOf, Records.inputBytes, Records.policyOf, Records.policyInBytes, Refused.fault}
-use Rattle.rules.specs.{Refused.noFault, Refused.inputFault, Refused.firstFault, Refused.lengthFaults, Refused.Answer, Refused.refused, Refused.answered}
-use Rattle.rules.specs.{Numbers.twoNumbers, Price.costOf, Price.scaledPrice, Utility.held, Verdict.verdictOf, Order.sortedBy, Rank.Candidate, Rank.better}
+use Rattle.rules.specs.{Records.modelOf, Records.modelBytes, Records.inputOf, Records.inputBytes, Records.policyOf, Records.policyInBytes}
+use Rattle.rules.specs.{Refused.fault}
+use Rattle.rules.specs.{Refused.noFault, Refused.inputFault, Refused.firstFault, Refused.lengthFaults, Refused.Answer, Refused.refused}
+use Rattle.rules.specs.{Refused.answered}
+use Rattle.rules.specs.{Numbers.twoNumbers, Price.costOf, Price.scaledPrice, Utility.held, Verdict.verdictOf, Order.sortedBy, Rank.Candidate}
+use Rattle.rules.specs.{Rank.better}
 use Rattle.rules.specs.{Count.dominantOf, Listing.findOf, Listing.readingOf, Listing.recordOf, Listing.recordStart, Decide.requestCheck}
 use Rattle.rules.specs.{Decide.prescribeOf, Decide.prescribeCheckedOf, Decide.prescribeTracedCheckedOf, Decide.utilityForModelOf}
+use Rattle.rules.specs.declared.records.Rounding.the-variants.{Apart}
 use Rattle.rules.proofs.{Opened.rules, Rows.Row, Rows.says, Rows.decided, Rows.explained, Example.bank, Example.modelOne, Example.modelTwo}
 use Rattle.rules.proofs.{Example.policy, Example.request, Example.with, Example.uneven, Example.atHardLimit, Example.unsure, Example.decision}
 use Rattle.rules.proofs.{Example.rejected, Example.counts, Example.noCounts, Example.counted, Literals.modelBytes47, Literals.modelSaid}
@@ -22,7 +26,7 @@ byteRows =
     ∷ says "a request's bytes, read" (inputOf requestBytes70) requestSaid refl
     ∷ says "a request's bytes, written" (inputBytes requestSaid) requestBytes70 refl
     ∷ says "a policy's bytes, read" (policyOf policyBytes30) policySaid refl
-    ∷ says "a policy's bytes, written" (policyInBytes policySaid) policyBytes30 refl
+    ∷ says "a policy's bytes, written: 0 after them for apart" (policyInBytes policySaid) (policyBytes30 ++ (0 ∷ [])) refl
     ∷ says "an explanation of each verdict" (explained fourModels fourPolicy fourRequest (replicate 288 255))
     (answered (decision 72623859790382856 2 2 1145258561 3 5261728424987371 (pos 1234605616686861287) 0 (pos 0) 4 1 11 12), fourExplained)
     refl
@@ -164,7 +168,7 @@ rankRows =
     ∷ says "-2 ^ 63 - 1 is held" (held (negsuc (2 ^ 63))) (negsuc (2 ^ 63 - 1)) refl
     ∷ says "-2 ^ 63 stands" (held (negsuc (2 ^ 63 - 1))) (negsuc (2 ^ 63 - 1)) refl
     ∷ says "a cost is held at 2 ^ 64 - 1: the highest price for 2 ^ 32 - 1 tokens"
-    (costOf (modelOf (with 31 (replicate 8 255) modelOne)) (inputOf (with 12 (replicate 4 255) request)))
+    (costOf Apart (modelOf (with 31 (replicate 8 255) modelOne)) (inputOf (with 12 (replicate 4 255) request)))
     (2 ^ 64 - 1)
     refl
     ∷ says "the highest price at a scale of one stands" (scaledPrice (2 ^ 64 - 1) 1000000) (2 ^ 64 - 1) refl

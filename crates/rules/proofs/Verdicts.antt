@@ -2,8 +2,8 @@
 use Rattle.rules.proofs.Kit.{ℕ, suc, _+_, _<_, _≤_, eq-zero-or-pos, arith, _≡_, refl, ⊎-elim, Bool, true, false, cond, List, [], _∷_, ltb, pos, length}
 use Rattle.rules.proofs.Kit.{leZ}
 use Rattle.rules.specs.{Choice.below, Numbers.Verdict, Gates.firstOf, Gates.isOff, Gates.isPoor, Gates.isSlow, Gates.isUnable, Gates.isUnknown}
-use Rattle.rules.specs.{Gates.isBarred, Gates.isElsewhere, Gates.isRisky, Gates.gateOf, Price.costOf, Utility.utilityOf, Verdict.overBudget}
-use Rattle.rules.specs.{Verdict.withTerms, Verdict.byUtility, Verdict.verdictOf, declared.records.KernelModel.KernelModel}
+use Rattle.rules.specs.{Gates.isBarred, Gates.isElsewhere, Gates.isRisky, Gates.gateOf, Utility.utilityOf, Verdict.overBudget}
+use Rattle.rules.specs.{Verdict.withTerms, Verdict.byUtility, Verdict.verdictCosting, declared.records.KernelModel.KernelModel}
 use Rattle.rules.specs.{declared.records.KernelInput.KernelInput, declared.records.PolicySnapshot.PolicySnapshot}
 use Rattle.rules.proofs.Choices.{below-yes, below-no}
 
@@ -31,22 +31,22 @@ either : (b : Bool) (u v : Verdict) → Told u → Told v → Told (cond b u v)
 either true u v t s = t
 either false u v t s = s
 
--- Every verdict that a record is told is of one of them
-module _ (p : PolicySnapshot) (q : KernelInput) (m : KernelModel) where
-  told-terms : (b : Bool) → Told (withTerms p q m (cond b 3 4))
+-- Every verdict that a record is told is of one of them, whatever it costs
+module _ (p : PolicySnapshot) (q : KernelInput) (m : KernelModel) (cost : ℕ) where
+  told-terms : (b : Bool) → Told (withTerms p q m cost (cond b 3 4))
   told-terms true = by-utility refl
   told-terms false = eligible refl
 
-  told-priced : Told (byUtility p q m)
+  told-priced : Told (byUtility p q m cost)
   unfolding byUtility
-  told-priced = told-terms (leZ (utilityOf p m q) (pos 0))
+  told-priced = told-terms (leZ (utilityOf p m q cost) (pos 0))
 
-  told-cost : Told (below (q .«budget_limit_microunits») (costOf m q) (overBudget (costOf m q) (q .«budget_limit_microunits»)) (byUtility p q m))
+  told-cost : Told (below (q .«budget_limit_microunits») cost (overBudget cost (q .«budget_limit_microunits»)) (byUtility p q m cost))
   unfolding below
-  told-cost = either (ltb (q .«budget_limit_microunits») (costOf m q)) _ _ (by-budget refl) told-priced
+  told-cost = either (ltb (q .«budget_limit_microunits») cost) _ _ (by-budget refl) told-priced
 
-  pub verdict-told : Told (verdictOf p q m)
-  unfolding verdictOf
+  pub verdict-told : Told (verdictCosting p q m cost)
+  unfolding verdictCosting
   verdict-told =
       ⊎-elim
       (λ (z : gateOf m q ≡ 0). let h : gateOf m q ≤ 0 = omega arith in rw (below-no 0 (gateOf m q) _ _ h) told-cost)

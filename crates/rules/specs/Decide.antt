@@ -11,7 +11,8 @@ use Rattle.rules.specs.Records.{Listed, listedOf}
 use Rattle.rules.specs.Refused.{Fault, Faults, fault, inputFault, firstFault, bankFaults, Answer, refused, answered, unless, refuseIf}
 use Rattle.rules.specs.Numbers.{Decision, DecisionAndTrace, Verdict, whereEligible}
 use Rattle.rules.specs.Listing.{firstListed}
-use Rattle.rules.specs.Verdict.{Judged, judged, verdictOf}
+use Rattle.rules.specs.Price.{Cost, costUnder}
+use Rattle.rules.specs.Verdict.{Judged, judgedBy, judged, verdictOf}
 use Rattle.rules.specs.Rank.{Candidate, ranking}
 use Rattle.rules.specs.Count.{noCounts, countsOf, dominantOf}
 use Rattle.rules.specs.declared.records.KernelInput.{KernelInput}
@@ -78,9 +79,13 @@ byRanking p q js (c ∷ cs) = chosen p q (length js) c cs
 unfoldable pub byVerdicts : PolicySnapshot → KernelInput → List Judged → Decision
 byVerdicts p q js = byRanking p q js (ranking js)
 
--- D1, D2. The decision over a list of records; a stopped request evaluates none
-unfoldable pub decisionOf : PolicySnapshot → KernelInput → List Listed → Decision
-decisionOf p q ls = below 0 (stoppedBy p q) (rejection p q (stoppedBy p q) 0) (byVerdicts p q (judged p q ls))
+-- D1, D2. The decision over a list of records, by any rule of cost; a stopped request evaluates none
+unfoldable pub decisionBy : Cost → PolicySnapshot → KernelInput → List Listed → Decision
+decisionBy costs p q ls = below 0 (stoppedBy p q) (rejection p q (stoppedBy p q) 0) (byVerdicts p q (judgedBy costs p q ls))
+
+-- O1. By the policy's
+abbrev pub decisionOf : PolicySnapshot → KernelInput → List Listed → Decision
+decisionOf p q ls = decisionBy (costUnder p) p q ls
 
 -- D1, D2, D23. The counts: zero where the request is stopped
 unfoldable pub countsIn : PolicySnapshot → KernelInput → List Listed → RejectionHistogram

@@ -10,8 +10,8 @@ use Rattle.rules.specs.Choice.{equal}
 use Rattle.rules.specs.Records.{Listed, listed}
 use Rattle.rules.specs.Refused.{Fault, noFault}
 use Rattle.rules.specs.Numbers.{Decision, isRejection, Entry, Boundary}
-use Rattle.rules.specs.Price.{scaledPrice}
-use Rattle.rules.specs.Decide.{noCandidate, decisionWith, decisionOf}
+use Rattle.rules.specs.Price.{Cost, scaledPrice}
+use Rattle.rules.specs.Decide.{noCandidate, decisionWith, decisionBy}
 use Rattle.rules.specs.declared.records.KernelModel.{KernelModel}
 use Rattle.rules.specs.declared.records.KernelInput.{KernelInput}
 use Rattle.rules.specs.declared.records.PolicySnapshot.{PolicySnapshot}
@@ -45,8 +45,9 @@ unfoldable pub varied : ℕ → KernelModel → List Listed → List Listed
 varied id m [] = []
 varied id m (l ∷ ls) = equal (l .model .«model_id») id (listed (l .place) m ∷ ls) (l ∷ varied id m ls)
 
--- What the boundary calls ask about: policy, request, list, and the model with the id that is varied
+-- What the boundary calls ask about: what a model costs, policy, request, list, and the model with the id that is varied
 pub record Question : Type 0 where
+  pub costs : Cost
   pub policy : PolicySnapshot
   pub request : KernelInput
   pub list : List Listed
@@ -55,7 +56,7 @@ pub record Question : Type 0 where
 
 -- W2. The decision with a lever at a value, and whether it selects the id
 unfoldable pub decisionAt : Question → ℕ → ℕ → Decision
-decisionAt a lever v = decisionOf (a .policy) (a .request) (varied (a .id) (leverAt lever v (a .model)) (a .list))
+decisionAt a lever v = decisionBy (a .costs) (a .policy) (a .request) (varied (a .id) (leverAt lever v (a .model)) (a .list))
 
 unfoldable pub wins : Question → ℕ → ℕ → Bool
 wins a lever v = selects (a .id) (decisionAt a lever v)

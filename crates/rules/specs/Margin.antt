@@ -8,7 +8,8 @@ use Rattle.rules.specs.Choice.{pick}
 use Rattle.rules.specs.Records.{Listed, listedOf}
 use Rattle.rules.specs.Refused.{fault, bankFaults, unless}
 use Rattle.rules.specs.Numbers.{Decision, isRejection, Boundary}
-use Rattle.rules.specs.Decide.{decisionOf}
+use Rattle.rules.specs.Price.{Cost, costUnder}
+use Rattle.rules.specs.Decide.{decisionBy}
 use Rattle.rules.specs.Listing.{firstListed}
 use Rattle.rules.specs.Halving.{Lowest, Highest, searchOf, searchAfterFarEnd}
 use Rattle.rules.specs.Levers.{Question, wins, Sought, plain, priced, andThen, boundaryOf, boundaryRefused}
@@ -24,17 +25,22 @@ marginLevers a =
     (andThen (priced a (searchAfterFarEnd Highest (wins a 3) ppm maxPriceScale))
     (plain 4 (a .model .«risk_ceiling_bps») (searchAfterFarEnd Lowest (wins a 4) 0 (a .model .«risk_ceiling_bps»)))))
 
--- R1. The first listed record with the chosen id is varied; a chosen id is always listed
-abbrev pub marginIfListed : PolicySnapshot → KernelInput → List Listed → Decision → Option Listed → Boundary
-marginIfListed p q ls d none = boundaryRefused (fault 6)
-marginIfListed p q ls d (some l) = boundaryOf (d .model) d false (marginLevers (record { policy = p; request = q; list = ls; id = d .model; model = l .model }))
+-- R1. By any rule of cost. The first listed record with the chosen id is varied; a chosen id is always listed
+abbrev pub marginIfListed : Cost → PolicySnapshot → KernelInput → List Listed → Decision → Option Listed → Boundary
+marginIfListed costs p q ls d none = boundaryRefused (fault 6)
+marginIfListed costs p q ls d (some l) =
+    boundaryOf (d .model) d false (marginLevers (record { costs = costs; policy = p; request = q; list = ls; id = d .model; model = l .model }))
 
 -- N6. A rejection has no margin
-unfoldable pub marginFor : PolicySnapshot → KernelInput → List Listed → Decision → Boundary
-marginFor p q ls d = pick (isRejection d) (λ _. boundaryRefused (fault 6)) (λ _. marginIfListed p q ls d (firstListed (d .model) ls))
+unfoldable pub marginFor : Cost → PolicySnapshot → KernelInput → List Listed → Decision → Boundary
+marginFor costs p q ls d = pick (isRejection d) (λ _. boundaryRefused (fault 6)) (λ _. marginIfListed costs p q ls d (firstListed (d .model) ls))
 
-unfoldable pub marginIn : PolicySnapshot → KernelInput → List Listed → Boundary
-marginIn p q ls = marginFor p q ls (decisionOf p q ls)
+unfoldable pub marginBy : Cost → PolicySnapshot → KernelInput → List Listed → Boundary
+marginBy costs p q ls = marginFor costs p q ls (decisionBy costs p q ls)
+
+-- O1. By the policy's
+abbrev pub marginIn : PolicySnapshot → KernelInput → List Listed → Boundary
+marginIn p q ls = marginBy (costUnder p) p q ls
 
 -- N23. `decision_margin` over a bank
 unfoldable pub decisionMarginOf : PolicySnapshot → KernelInput → List ℕ → Boundary

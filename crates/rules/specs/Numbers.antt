@@ -25,6 +25,8 @@ use Rattle.rules.specs.declared.decision.Found.{Found}
 use Rattle.rules.specs.declared.decision.Found.the-variants as found
 use Rattle.rules.specs.declared.forms.StoredRead.{StoredRead}
 use Rattle.rules.specs.declared.forms.StoredRead.the-variants as stored
+use Rattle.rules.specs.declared.forms.PolicyRead.{PolicyRead}
+use Rattle.rules.specs.declared.forms.PolicyRead.the-variants as policy
 use Rattle.rules.specs.declared.forms.RequestRead.{RequestRead}
 use Rattle.rules.specs.declared.forms.RequestRead.the-variants as request
 use Rattle.rules.specs.declared.forms.Written.{Written}
@@ -123,7 +125,12 @@ toldFound (found.Refused r) = refused (toldRefusal r)
 toldFound (found.At place) = answered (some place)
 toldFound found.Nowhere = answered none
 
--- ---- stored forms
+-- ---- policies, stored forms
+
+-- O2. What reading a policy's bytes answers
+abbrev pub toldPolicy : PolicyRead → Answer PolicySnapshot
+toldPolicy (policy.Refused r) = refused (toldRefusal r)
+toldPolicy (policy.Read p) = answered p
 
 -- B11. What reading a stored form answers: the policy, and how many bytes of models now stand in the buffer
 pub record StoredPolicy : Type 0 where

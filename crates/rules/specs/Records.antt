@@ -1,14 +1,17 @@
 -- Document 01, "Bytes": a model, a request and a policy in bytes, and a bank as a list of models with their places.
 use Prim.Native.Nat.{ℕ, zero, suc, _*_, _/_}
-use mathlib.Core.List.{List, [], _∷_}
+use mathlib.Core.List.{List, [], _∷_, _++_}
 use lib.ListN.{length, take, drop}
 use mir.Syntax.{w64}
 use mir.Val.{toZ, ofZ}
-use Rattle.rules.specs.Limits.{recordBytes}
+use Rattle.rules.specs.Limits.{recordBytes, policyBytes}
+use Rattle.rules.specs.Choice.{equal}
 use Rattle.rules.specs.Bytes.{numberAt, packed}
 use Rattle.rules.specs.declared.records.KernelModel.{KernelModel}
 use Rattle.rules.specs.declared.records.KernelInput.{KernelInput}
 use Rattle.rules.specs.declared.records.PolicySnapshot.{PolicySnapshot}
+use Rattle.rules.specs.declared.records.Rounding.{Rounding}
+use Rattle.rules.specs.declared.records.Rounding.the-variants.{Apart, Once}
 
 -- B3. The model that 47 bytes say: each field by its offset and width
 unfoldable pub modelOf : List ℕ → KernelModel
@@ -82,20 +85,33 @@ inputFields q =
 abbrev pub inputBytes : KernelInput → List ℕ
 inputBytes q = packed (inputFields q)
 
--- B10. The policy that 30 bytes say
-unfoldable pub policyOf : List ℕ → PolicySnapshot
-policyOf s = record {
+-- O2. How a policy rounds, as a number: 0 apart, 1 once. Where a number is read, any other was refused before
+abbrev pub roundingNo : Rounding → ℕ
+roundingNo Apart = 0
+roundingNo Once = 1
+
+abbrev pub roundingOf : ℕ → Rounding
+roundingOf n = equal n 1 Once Apart
+
+-- B10. The policy whose six numbers 30 bytes say, and that rounds so
+unfoldable pub policyWith : Rounding → List ℕ → PolicySnapshot
+policyWith r s = record {
   «policy_epoch» = numberAt s 0 8;
   «catalog_epoch» = numberAt s 8 8;
   «hard_risk_limit_bps» = numberAt s 16 2;
   «minimum_confidence_bps» = numberAt s 18 2;
   «risk_penalty_multiplier_bps» = numberAt s 20 2;
   «latency_penalty_microunits_per_ms» = numberAt s 22 8;
+  rounding = r;
 }
 
--- B10. A policy's fields, each beside its width, and the bytes that say them
-abbrev pub policyFields : PolicySnapshot → List (ℕ × ℕ)
-policyFields p =
+-- O2. The policy that 30 bytes say, which rounds apart, no byte being 0; or 31, of which the last says how it rounds
+unfoldable pub policyOf : List ℕ → PolicySnapshot
+policyOf s = policyWith (roundingOf (numberAt s policyBytes 1)) s
+
+-- B10. A policy's numbers, each beside its width, and the bytes that say them
+abbrev pub policyNumbers : PolicySnapshot → List (ℕ × ℕ)
+policyNumbers p =
     (8, p .«policy_epoch»)
     ∷ (8, p .«catalog_epoch»)
     ∷ (2, p .«hard_risk_limit_bps»)
@@ -103,6 +119,13 @@ policyFields p =
     ∷ (2, p .«risk_penalty_multiplier_bps»)
     ∷ (8, p .«latency_penalty_microunits_per_ms»)
     ∷ []
+
+abbrev pub policyNumberBytes : PolicySnapshot → List ℕ
+policyNumberBytes p = packed (policyNumbers p)
+
+-- O2. The same with how it rounds: the longest form, in which a policy is handed back
+abbrev pub policyFields : PolicySnapshot → List (ℕ × ℕ)
+policyFields p = policyNumbers p ++ (1, roundingNo (p .rounding)) ∷ []
 
 abbrev pub policyInBytes : PolicySnapshot → List ℕ
 policyInBytes p = packed (policyFields p)

@@ -61,6 +61,7 @@ toldRefusal refusal.TooManyForProgram = fault 19
 toldRefusal refusal.CutShort = fault 20
 toldRefusal refusal.WrongTag = fault 21
 toldRefusal refusal.WrongLength = fault 22
+toldRefusal refusal.UnknownRounding = fault 23
 
 -- What an outcome tells: nothing where it answers, else its refusal's number
 abbrev pub noFault : Option Fault

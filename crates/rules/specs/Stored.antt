@@ -1,17 +1,19 @@
--- Document 01, "Bytes": the stored form of a policy with its bank, and the request form.
+-- Document 01, "Bytes": the stored form of a policy with its bank, and the request form; document 02, d: tag 4, and a policy alone.
 use Prim.Native.Nat.{ℕ, _+_, _/_, _%_}
-use mathlib.Core.Bool.{Bool, false, not, _&&_}
+use mathlib.Core.Bool.{Bool, false, cond, not, _&&_, _||_}
 use mathlib.Core.List.{List, [], _∷_, _++_}
 use lib.Dec.{eqb, leb, ltb}
 use lib.ListN.{length, take, drop}
-use Rattle.rules.specs.Limits.{policyBytes, fieldHeaderBytes, storedRecordBytes, storedRequestBytes, maxStoredModels}
+use Rattle.rules.specs.Limits.{policyBytes, longestPolicyBytes, fieldHeaderBytes, storedRecordBytes, storedRequestBytes, maxStoredModels}
 use Rattle.rules.specs.Choice.{equal}
-use Rattle.rules.specs.Bytes.{bytesOf, numberAt}
-use Rattle.rules.specs.Records.{policyOf, policyInBytes, inputOf, inputBytes, recordsIn}
+use Rattle.rules.specs.Bytes.{bytesOf, number, numberAt}
+use Rattle.rules.specs.Records.{policyWith, policyOf, policyNumberBytes, inputOf, inputBytes, recordsIn}
 use Rattle.rules.specs.Refused.{Faults, fault, bankFaults, roomFaults, listUnless, Answer, answered, unless, refused, refuseIf}
 use Rattle.rules.specs.Numbers.{StoredPolicy}
 use Rattle.rules.specs.declared.records.KernelInput.{KernelInput}
 use Rattle.rules.specs.declared.records.PolicySnapshot.{PolicySnapshot}
+use Rattle.rules.specs.declared.records.Rounding.{Rounding}
+use Rattle.rules.specs.declared.records.Rounding.the-variants.{Apart, Once}
 
 -- ---- fields
 
@@ -19,12 +21,13 @@ use Rattle.rules.specs.declared.records.PolicySnapshot.{PolicySnapshot}
 unfoldable pub fieldBytes : ℕ → List ℕ → List ℕ
 fieldBytes tag body = tag ∷ bytesOf 2 (length body) ++ body
 
--- B11. The lengths that a tag's body may have: tag 1 a policy's, tag 2 that of 0 to 1,394 models, tag 3 a request's
+-- B11, O3. The lengths that a tag's body may have: tag 1 that of a policy's numbers, tag 2 that of 0 to 1,394 models, tag 3 a request's, tag 4 one byte
 unfoldable pub fits : ℕ → ℕ → Bool
 fits tag n =
     equal tag 1 (eqb n policyBytes)
     (equal tag 2 (eqb (n % storedRecordBytes) 0 && leb (n / storedRecordBytes) maxStoredModels)
-    (equal tag 3 (eqb n storedRequestBytes) false))
+    (equal tag 3 (eqb n storedRequestBytes)
+    (equal tag 4 (eqb n 1) false)))
 
 -- B11. What the field at the front of some bytes says: its tag, the length of its body, its body; and what stands after it
 abbrev pub tagOf : List ℕ → ℕ
@@ -39,8 +42,12 @@ bodyOf s = take (bodyLength s) (drop fieldHeaderBytes s)
 unfoldable pub afterOf : List ℕ → List ℕ
 afterOf s = drop (fieldHeaderBytes + bodyLength s) s
 
--- N20, N21, N22, N25. Where a field with a tag is due: no byte is 21; then 20 for a cut header, 21 for another tag, 22 for a length that the
--- tag doesn't have, 20 for a cut body
+-- O3, O4. The body of tag 4 is 1: any other is 23
+unfoldable pub bodyFaults : ℕ → List ℕ → Faults
+bodyFaults tag body = refuseIf (eqb tag 4 && not (eqb (number body) 1)) (fault 23)
+
+-- N20, N21, N22, N25, O4. Where a field with a tag is due: no byte is 21; then 20 for a cut header, 21 for another tag, 22 for a length that the
+-- tag doesn't have, 20 for a cut body, and what the body itself is refused for
 unfoldable pub fieldFaults : ℕ → List ℕ → Faults
 fieldFaults tag s =
     refuseIf (eqb (length s) 0) (fault 21)
@@ -48,17 +55,54 @@ fieldFaults tag s =
     ++ refuseIf (not (eqb (tagOf s) tag)) (fault 21)
     ++ refuseIf (not (fits tag (bodyLength s))) (fault 22)
     ++ refuseIf (ltb (length s) (fieldHeaderBytes + bodyLength s)) (fault 20)
+    ++ bodyFaults tag (bodyOf s)
+
+-- O3. Tag 4 may be left out where it is due: then no byte 4 stands there
+abbrev pub leftOut : ℕ → List ℕ → Bool
+leftOut tag s = eqb tag 4 && not (eqb (tagOf s) tag)
+
+-- O3. What refuses a field where it is due, unless it may be left out there and is; and what stands after it
+abbrev pub dueFaults : ℕ → List ℕ → Faults
+dueFaults tag s = cond (leftOut tag s) [] (fieldFaults tag s)
+
+abbrev pub afterDue : ℕ → List ℕ → List ℕ
+afterDue tag s = cond (leftOut tag s) s (afterOf s)
 
 -- N21, N25. Fields with these tags, one after the other, then the end: any byte after the last field is 21
 unfoldable pub formFaults : List ℕ → List ℕ → Faults
 formFaults [] s = refuseIf (not (eqb (length s) 0)) (fault 21)
-formFaults (tag ∷ tags) s = fieldFaults tag s ++ formFaults tags (afterOf s)
+formFaults (tag ∷ tags) s = dueFaults tag s ++ formFaults tags (afterDue tag s)
+
+-- ---- a policy alone
+
+-- O4. A policy as a call is lent it: 22 where it has neither 30 bytes nor 31, then 23 where the 31st is neither 0 nor 1
+unfoldable pub policySizeFaults : List ℕ → Faults
+policySizeFaults s = refuseIf (not (eqb (length s) policyBytes || eqb (length s) longestPolicyBytes)) (fault 22)
+
+unfoldable pub roundingFaults : List ℕ → Faults
+roundingFaults s = refuseIf (ltb 1 (numberAt s policyBytes 1)) (fault 23)
+
+abbrev pub policyByteFaults : List ℕ → Faults
+policyByteFaults s = policySizeFaults s ++ roundingFaults s
+
+-- O2. Reading one
+unfoldable pub readPolicyOf : List ℕ → Answer PolicySnapshot
+readPolicyOf s = unless (policyByteFaults s) refused (answered (policyOf s))
 
 -- ---- a policy with its bank
 
--- B11. Tag 1 with the policy, then tag 2 with the models
+-- O3, O5. Tag 4 stands for rounding once, and nothing for rounding apart
+unfoldable pub roundingField : Rounding → List ℕ
+roundingField Apart = []
+roundingField Once = fieldBytes 4 (1 ∷ [])
+
+-- B11, O3. Tag 1 with the policy's numbers, then tag 2 with the models, then how it rounds
 unfoldable pub storedForm : PolicySnapshot → List ℕ → List ℕ
-storedForm p bank = fieldBytes 1 (policyInBytes p) ++ fieldBytes 2 bank
+storedForm p bank = fieldBytes 1 (policyNumberBytes p) ++ fieldBytes 2 bank ++ roundingField (p .rounding)
+
+-- B11, O3. The tags of a stored form, in their order
+abbrev pub storedTags : List ℕ
+storedTags = 1 ∷ 2 ∷ 4 ∷ []
 
 -- N18, N23. Writing one: 1, 2, 18, 4; the answer is its length
 unfoldable pub writeFaults : PolicySnapshot → List ℕ → ℕ → Faults
@@ -70,16 +114,19 @@ writeStoredOf p bank room = unless (writeFaults p bank room) refused (answered (
 unfoldable pub writeStoredBuffer : PolicySnapshot → List ℕ → List ℕ → List ℕ
 writeStoredBuffer p bank buffer = listUnless (writeFaults p bank (length buffer)) (storedForm p bank) buffer
 
--- B11. Reading one: its policy, and the models' bytes
+-- B11, O3. Reading one: how its policy rounds, its policy, and the models' bytes
+abbrev pub storedRounding : List ℕ → Rounding
+storedRounding form = cond (leftOut 4 (afterOf (afterOf form))) Apart Once
+
 abbrev pub storedPolicy : List ℕ → PolicySnapshot
-storedPolicy form = policyOf (bodyOf form)
+storedPolicy form = policyWith (storedRounding form) (bodyOf form)
 
 abbrev pub storedBank : List ℕ → List ℕ
 storedBank form = bodyOf (afterOf form)
 
 -- N25. The form's own faults come first, 4 last
 unfoldable pub readFaults : List ℕ → ℕ → Faults
-readFaults form room = formFaults (1 ∷ 2 ∷ []) form ++ roomFaults (length (storedBank form)) room
+readFaults form room = formFaults storedTags form ++ roomFaults (length (storedBank form)) room
 
 unfoldable pub readStoredOf : List ℕ → ℕ → Answer StoredPolicy
 readStoredOf form room = unless (readFaults form room) refused (answered (record { policy = storedPolicy form; size = length (storedBank form) }))

@@ -2,7 +2,6 @@
 use Prim.Native.Nat.{ℕ, min, _*_, _/_}
 use lib.IntN.{ℤ, pos, negsuc, _-ℤ_}
 use Rattle.rules.specs.Limits.{scaledBasisPoints, maxI64}
-use Rattle.rules.specs.Price.{costOf}
 use Rattle.rules.specs.declared.records.KernelModel.{KernelModel}
 use Rattle.rules.specs.declared.records.KernelInput.{KernelInput}
 use Rattle.rules.specs.declared.records.PolicySnapshot.{PolicySnapshot}
@@ -33,9 +32,9 @@ abbrev pub held : ℤ → ℤ
 held (pos n) = pos (min n maxI64)
 held (negsuc n) = negsuc (min n maxI64)
 
--- D19. Quality less risk, cost and latency, exact; then held
-unfoldable pub exactUtilityOf : PolicySnapshot → KernelModel → KernelInput → ℤ
-exactUtilityOf p m q = pos (qualityTermOf m q) -ℤ pos (riskTermOf p q) -ℤ pos (costOf m q) -ℤ pos (latencyTermOf p m)
+-- D19. At a cost: quality less risk, cost and latency, exact; then held
+unfoldable pub exactUtilityOf : PolicySnapshot → KernelModel → KernelInput → ℕ → ℤ
+exactUtilityOf p m q cost = pos (qualityTermOf m q) -ℤ pos (riskTermOf p q) -ℤ pos cost -ℤ pos (latencyTermOf p m)
 
-unfoldable pub utilityOf : PolicySnapshot → KernelModel → KernelInput → ℤ
-utilityOf p m q = held (exactUtilityOf p m q)
+unfoldable pub utilityOf : PolicySnapshot → KernelModel → KernelInput → ℕ → ℤ
+utilityOf p m q cost = held (exactUtilityOf p m q cost)

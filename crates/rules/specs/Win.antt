@@ -9,7 +9,8 @@ use Rattle.rules.specs.Choice.{pick}
 use Rattle.rules.specs.Records.{Listed, listedOf}
 use Rattle.rules.specs.Refused.{fault, bankFaults, unless}
 use Rattle.rules.specs.Numbers.{Decision, Boundary}
-use Rattle.rules.specs.Decide.{stoppedBy, decisionOf}
+use Rattle.rules.specs.Price.{Cost, costUnder}
+use Rattle.rules.specs.Decide.{stoppedBy, decisionBy}
 use Rattle.rules.specs.Listing.{firstListed}
 use Rattle.rules.specs.Halving.{Lowest, Highest, searchOf}
 use Rattle.rules.specs.Levers.{Question, wins, selects, Sought, entry, plain, priced, andThen, noSearch, boundaryOf, boundaryRefused}
@@ -40,13 +41,18 @@ winFor a d =
     (λ _. pick (selects (a .id) d) (λ _. boundaryOf (a .id) d false noSearch) (λ _. boundaryOf (a .id) d false (winSearch a)))
     (λ _. boundaryOf (a .id) d true noSearch)
 
--- N5. An id that isn't listed is refused, whatever stops the request
-abbrev pub winIfListed : PolicySnapshot → KernelInput → List Listed → ℕ → Option Listed → Boundary
-winIfListed p q ls id none = boundaryRefused (fault 5)
-winIfListed p q ls id (some l) = winFor (record { policy = p; request = q; list = ls; id = id; model = l .model }) (decisionOf p q ls)
+-- N5. By any rule of cost. An id that isn't listed is refused, whatever stops the request
+abbrev pub winIfListed : Cost → PolicySnapshot → KernelInput → List Listed → ℕ → Option Listed → Boundary
+winIfListed costs p q ls id none = boundaryRefused (fault 5)
+winIfListed costs p q ls id (some l) =
+    winFor (record { costs = costs; policy = p; request = q; list = ls; id = id; model = l .model }) (decisionBy costs p q ls)
 
-unfoldable pub winIn : PolicySnapshot → KernelInput → List Listed → ℕ → Boundary
-winIn p q ls id = winIfListed p q ls id (firstListed id ls)
+unfoldable pub winBy : Cost → PolicySnapshot → KernelInput → List Listed → ℕ → Boundary
+winBy costs p q ls id = winIfListed costs p q ls id (firstListed id ls)
+
+-- O1. By the policy's
+abbrev pub winIn : PolicySnapshot → KernelInput → List Listed → ℕ → Boundary
+winIn p q ls id = winBy (costUnder p) p q ls id
 
 -- N23. `what_would_win` over a bank
 unfoldable pub whatWouldWinOf : PolicySnapshot → KernelInput → List ℕ → ℕ → Boundary

@@ -1,7 +1,13 @@
-// What reading and writing a stored form answers.
+// What reading and writing a policy's bytes, a stored form and a request form answers.
 use crate::records::KernelInput;
 use crate::records::PolicySnapshot;
 use crate::refusal::Refusal;
+
+// The policy that 30 or 31 bytes say.
+pub enum PolicyRead {
+    Refused(Refusal),
+    Read(PolicySnapshot),
+}
 
 // The policy, and how many bytes of models stand at the buffer's start.
 pub enum StoredRead {

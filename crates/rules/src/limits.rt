@@ -23,16 +23,18 @@ pub const MAX_PRICE_SCALE_PPM: u64 = 1_000_000_000;
 
 // A model's bytes in a bank.
 pub const RECORD_BYTES: usize = 47;
-// A request's bytes, and a policy's.
+// A request's bytes, those of a policy's six numbers, and those of a policy that also says how it rounds.
 pub const REQUEST_BYTES: usize = 70;
 
 pub const POLICY_BYTES: usize = 30;
+
+pub const LONGEST_POLICY_BYTES: usize = 31;
 // All of them, in arrays.
 pub type ModelBytes = [u8; RECORD_BYTES];
 
 pub type RequestBytes = [u8; REQUEST_BYTES];
 
-pub type PolicyBytes = [u8; POLICY_BYTES];
+pub type LongestPolicyBytes = [u8; LONGEST_POLICY_BYTES];
 
 // An explanation record's bytes.
 pub const EXPLANATION_BYTES: usize = 72;

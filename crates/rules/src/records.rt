@@ -1,4 +1,6 @@
-// What comes in: a model, a request, and the numbers of a policy. Field names and order are the Rust's.
+// What comes in: a model, a request, and a policy. Field names and order are the Rust's; how a policy rounds is ours.
+ghost use mathlib.Core.Path.{_≡_};
+ghost use Rattle.rules.specs.Records.{roundingNo};
 
 pub struct KernelModel {
     pub model_id: u32,
@@ -34,7 +36,25 @@ pub struct KernelInput {
     pub required_region_mask: u64,
 }
 
-// The policy's six numbers. The bank stands beside it, lent by the caller.
+// How a cost is rounded up to whole microunits: input and output each apart, as the Rust does, or their sum once.
+pub enum Rounding {
+    Apart,
+    Once,
+}
+
+impl Rounding {
+    // The byte that says it.
+    pub fn number(self) -> u8
+        ensures { λ r. ⌜ r ≡ roundingNo self ⌝ }
+    {
+        match self {
+            Rounding::Apart => 0,
+            Rounding::Once => 1,
+        }
+    }
+}
+
+// The policy's six numbers, and how it rounds a cost. The bank stands beside it, lent by the caller.
 pub struct PolicySnapshot {
     pub policy_epoch: u64,
     pub catalog_epoch: u64,
@@ -42,4 +62,5 @@ pub struct PolicySnapshot {
     pub minimum_confidence_bps: u16,
     pub risk_penalty_multiplier_bps: u16,
     pub latency_penalty_microunits_per_ms: u64,
+    pub rounding: Rounding,
 }

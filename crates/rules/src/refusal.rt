@@ -64,6 +64,8 @@ pub enum Refusal {
     WrongTag,
     // 22
     WrongLength,
+    // 23
+    UnknownRounding,
 }
 
 // Whether a call was refused, where it answers nothing else or its answer stands beside this.
@@ -104,6 +106,7 @@ impl Refusal {
             Refusal::CutShort => 20,
             Refusal::WrongTag => 21,
             Refusal::WrongLength => 22,
+            Refusal::UnknownRounding => 23,
         }
     }
 }

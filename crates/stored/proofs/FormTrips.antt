@@ -1,17 +1,22 @@
 -- Whole forms both ways: a form that was written passes and says the same, and one that passes is written as it was. Assumes nothing.
-use Rattle.rules.proofs.Kit.{ℕ, _+_, _%_, _≤_, _<_, _≡_, sym, ap, _∙_, true, not, List, [], _∷_, _++_, append-nil, arith, eq-eqb, le-leb, le-ltb, eqb, ltb}
-use Rattle.rules.proofs.Kit.{length, drop, w64, SFits}
-use Rattle.rules.specs.{Limits.fieldHeaderBytes, Limits.recordBytes, Limits.maxCatalogModels, Limits.maxStoredModels, Choice.equal, Records.policyOf}
-use Rattle.rules.specs.{Records.policyInBytes, Records.inputOf, Records.inputBytes, Records.recordsIn, Records.policyFields, Records.inputFields, Refused.fault}
-use Rattle.rules.specs.{Refused.refuseIf, Refused.lengthFaults, Stored.fieldBytes, Stored.fits, Stored.bodyLength, Stored.bodyOf, Stored.afterOf}
-use Rattle.rules.specs.{Stored.formFaults, Stored.storedForm, Stored.writeFaults, Stored.storedPolicy, Stored.storedBank, Stored.requestForm}
-use Rattle.rules.specs.{declared.records.KernelInput.KernelInput, declared.records.PolicySnapshot.PolicySnapshot}
+use Rattle.rules.proofs.Kit.{ℕ, _+_, _%_, _≤_, _<_, _≡_, refl, sym, ap, _∙_, Bool, true, false, not, cond, List, [], _∷_, _++_, append-assoc, append-nil}
+use Rattle.rules.proofs.Kit.{arith}
+use Rattle.rules.proofs.Kit.{eq-eqb, le-leb, le-ltb, eqb, ltb, length, drop, w64, SFits}
+use Rattle.rules.specs.{Limits.fieldHeaderBytes, Limits.recordBytes, Limits.maxCatalogModels, Limits.maxStoredModels, Choice.equal, Bytes.number}
+use Rattle.rules.specs.{Records.policyWith, Records.policyNumbers, Records.policyNumberBytes, Records.inputOf, Records.inputBytes, Records.recordsIn}
+use Rattle.rules.specs.{Records.inputFields, Refused.fault, Refused.refuseIf, Refused.lengthFaults, Stored.fieldBytes, Stored.fits, Stored.bodyLength}
+use Rattle.rules.specs.{Stored.bodyOf, Stored.afterOf, Stored.bodyFaults, Stored.leftOut, Stored.formFaults, Stored.roundingField, Stored.storedForm}
+use Rattle.rules.specs.{Stored.storedTags, Stored.writeFaults, Stored.storedRounding, Stored.storedPolicy, Stored.storedBank, Stored.requestForm}
+use Rattle.rules.specs.{declared.records.KernelInput.KernelInput, declared.records.PolicySnapshot.PolicySnapshot, declared.records.Rounding.Rounding}
+use Rattle.rules.specs.declared.records.Rounding.the-variants.{Apart, Once}
 use Rattle.endian.proofs.Numbers.{Small, small-take, small-drop}
-use Rattle.packing.proofs.{Layouts.Fitting, Trips.length-policy, Trips.length-input, Trips.policy-back, Trips.input-back, Trips.policy-forth, Trips.input-forth}
+use Rattle.packing.proofs.{Layouts.Fitting, Trips.length-numbers, Trips.length-input, Trips.numbers-back, Trips.input-back, Trips.with-rounding}
+use Rattle.packing.proofs.Trips.{numbers-forth, input-forth}
 use Rattle.rules.proofs.Faults.{below-none, equal-none, none-after, none-first, room-enough}
-use Rattle.stored_fields.proofs.{OneField.Passed, OneField.body-length, Forms.form-passed, Lengths.policy-length, Lengths.request-length, Lengths.fits-bank}
-use Rattle.stored.proofs.{Reading.catalog-fields, Trips.form-passes, Trips.end-passes, Trips.body-back, Trips.rest-back, Trips.written-passes}
-use Rattle.stored.proofs.{Trips.field-forth, Trips.last-forth}
+use Rattle.stored_fields.proofs.{OneField.Passed, OneField.body-length, Forms.form-passed, Forms.form-left-out, Lengths.policy-length, Lengths.request-length}
+use Rattle.stored_fields.proofs.Lengths.{fits-bank, rounding-body}
+use Rattle.stored.proofs.{Reading.catalog-fields, Trips.form-passes, Trips.end-passes, Trips.end-passed, Trips.body-back, Trips.rest-back}
+use Rattle.stored.proofs.Trips.{written-passes, field-forth, last-forth}
 
 -- ---- a field that is the last
 
@@ -19,10 +24,35 @@ module _ (tag : ℕ) (body : List ℕ) (h : length body < 65536) where
   last-body : bodyOf (fieldBytes tag body) ≡ body
   last-body = ap bodyOf (sym (append-nil (fieldBytes tag body))) ∙ body-back tag body [] h
 
-  last-passes : fits tag (length body) ≡ true → formFaults (tag ∷ []) (fieldBytes tag body) ≡ []
-  last-passes f =
+  last-passes : fits tag (length body) ≡ true → bodyFaults tag body ≡ [] → formFaults (tag ∷ []) (fieldBytes tag body) ≡ []
+  last-passes f b =
       let ends : formFaults [] (afterOf (fieldBytes tag body ++ [])) ≡ [] = ap (formFaults []) (rest-back tag body [] h) ∙ end-passes in
-      rw append-nil at (form-passes tag [] (fieldBytes tag body ++ []) (written-passes tag body [] h f) ends)
+      rw append-nil at (form-passes tag [] (fieldBytes tag body ++ []) (written-passes tag body [] h f b) ends)
+
+-- ---- how a policy rounds, as a form tells it
+
+-- WHAT WAS WRITTEN PASSES
+rounding-passes : (r : Rounding) → formFaults (4 ∷ []) (roundingField r) ≡ []
+unfolding formFaults roundingField fits equal bodyFaults number
+rounding-passes Apart = refl
+rounding-passes Once = last-passes 4 (1 ∷ []) (omega arith) refl refl
+
+-- AND SAYS THE SAME
+rounding-says : (r : Rounding) → cond (leftOut 4 (roundingField r)) Apart Once ≡ r
+unfolding roundingField fieldBytes number
+rounding-says Apart = refl
+rounding-says Once = refl
+
+-- WHAT PASSES IS WRITTEN AS IT WAS
+rounding-written : (s : List ℕ) → Small s → formFaults (4 ∷ []) s ≡ [] → roundingField (cond (leftOut 4 s) Apart Once) ≡ s
+unfolding roundingField
+rounding-written s small e = go (leftOut 4 s) refl
+  where
+    go : (b : Bool) → leftOut 4 s ≡ b → roundingField (cond b Apart Once) ≡ s
+    go true m = sym (end-passed s (sym (form-left-out 4 [] s m) ∙ e))
+    go false m =
+        let f = form-passed 4 [] s m e in
+        ap (fieldBytes 4) (sym (rounding-body s (f .0))) ∙ last-forth 4 s small (f .0) (f .1)
 
 -- ---- a bank that writing takes
 
@@ -64,26 +94,42 @@ module _ (p : PolicySnapshot) (bank : List ℕ) (s : Storable (length bank)) whe
   short : length bank < 65536
   short = omega (arith, s .even, s .few)
 
-  after-policy : afterOf (storedForm p bank) ≡ fieldBytes 2 bank
+  -- the form as its first field, and what stands after it
+  opened : storedForm p bank ≡ fieldBytes 1 (policyNumberBytes p) ++ (fieldBytes 2 bank ++ roundingField (p .rounding))
   unfolding storedForm
-  after-policy = rest-back 1 (policyInBytes p) (fieldBytes 2 bank) (omega (arith, length-policy p))
+  opened = append-assoc (fieldBytes 1 (policyNumberBytes p)) (fieldBytes 2 bank) (roundingField (p .rounding))
+
+  after-policy : afterOf (storedForm p bank) ≡ fieldBytes 2 bank ++ roundingField (p .rounding)
+  after-policy = ap afterOf opened ∙ rest-back 1 (policyNumberBytes p) _ (omega (arith, length-numbers p))
+
+  after-bank : afterOf (afterOf (storedForm p bank)) ≡ roundingField (p .rounding)
+  after-bank = ap afterOf after-policy ∙ rest-back 2 bank (roundingField (p .rounding)) short
 
   policy-passes : Passed 1 (storedForm p bank)
-  unfolding storedForm fits equal
-  policy-passes = written-passes 1 (policyInBytes p) (fieldBytes 2 bank) (omega (arith, length-policy p)) (rw (length-policy p))
+  unfolding fits equal bodyFaults
+  policy-passes = rw opened (written-passes 1 (policyNumberBytes p) _ (omega (arith, length-numbers p)) (rw (length-numbers p)) refl)
+
+  bank-passes : Passed 2 (afterOf (storedForm p bank))
+  unfolding bodyFaults
+  bank-passes = rw after-policy (written-passes 2 bank (roundingField (p .rounding)) short (fits-storable (length bank) s) refl)
 
   -- WHAT WAS WRITTEN PASSES
-  pub stored-passes : formFaults (1 ∷ 2 ∷ []) (storedForm p bank) ≡ []
+  pub stored-passes : formFaults storedTags (storedForm p bank) ≡ []
   stored-passes =
-      form-passes 1 (2 ∷ []) (storedForm p bank) policy-passes (rw after-policy (last-passes 2 bank short (fits-storable (length bank) s)))
+      form-passes 1 (2 ∷ 4 ∷ []) (storedForm p bank) policy-passes
+      (form-passes 2 (4 ∷ []) (afterOf (storedForm p bank)) bank-passes (rw after-bank (rounding-passes (p .rounding))))
 
   -- AND SAYS THE SAME
   pub stored-bank : storedBank (storedForm p bank) ≡ bank
-  stored-bank = ap bodyOf after-policy ∙ last-body 2 bank short
+  stored-bank = ap bodyOf after-policy ∙ body-back 2 bank (roundingField (p .rounding)) short
 
-  pub stored-policy : Fitting (policyFields p) → storedPolicy (storedForm p bank) ≡ p
-  unfolding storedForm
-  stored-policy fit = ap policyOf (body-back 1 (policyInBytes p) (fieldBytes 2 bank) (omega (arith, length-policy p))) ∙ policy-back p fit
+  stored-rounding : storedRounding (storedForm p bank) ≡ p .rounding
+  stored-rounding = rw after-bank (rounding-says (p .rounding))
+
+  pub stored-policy : Fitting (policyNumbers p) → storedPolicy (storedForm p bank) ≡ p
+  stored-policy fit =
+      let body : bodyOf (storedForm p bank) ≡ policyNumberBytes p = ap bodyOf opened ∙ body-back 1 (policyNumberBytes p) _ (omega (arith, length-numbers p)) in
+      (λ i. policyWith (stored-rounding i) (body i)) ∙ numbers-back p fit
 
 -- A body of small bytes is one
 small-body : (s : List ℕ) → Small s → Small (bodyOf s)
@@ -95,15 +141,21 @@ unfolding afterOf
 small-after s small = small-drop (fieldHeaderBytes + bodyLength s) s small
 
 -- WHAT PASSES IS WRITTEN AS IT WAS
-pub stored-forth : (form : List ℕ) → Small form → formFaults (1 ∷ 2 ∷ []) form ≡ [] → storedForm (storedPolicy form) (storedBank form) ≡ form
+pub stored-forth : (form : List ℕ) → Small form → formFaults storedTags form ≡ [] → storedForm (storedPolicy form) (storedBank form) ≡ form
 unfolding storedForm
 stored-forth form small e =
     let f = catalog-fields form e in
-    let policy = policy-forth (bodyOf form) (small-body form small) (policy-length form (f .policy)) in
-    let bank = last-forth 2 (afterOf form) (small-after form small) (f .bank) (f .end) in
-    (λ i. fieldBytes 1 (policy i) ++ bank i) ∙ field-forth 1 form small (f .policy)
+    let rest = small-after form small in
+    let r = storedRounding form in
+    let policy = numbers-forth r (bodyOf form) (small-body form small) (policy-length form (f .policy)) in
+    let rounding = ap roundingField (with-rounding r (bodyOf form))
+    ∙ rounding-written (afterOf (afterOf form)) (small-after (afterOf form) rest) (f .rounding) in
+    (λ i. fieldBytes 1 (policy i) ++ fieldBytes 2 (storedBank form) ++ rounding i)
+    ∙ append-assoc (fieldBytes 1 (bodyOf form)) (fieldBytes 2 (storedBank form)) (afterOf (afterOf form))
+    ∙ ap (λ (t : List ℕ). fieldBytes 1 (bodyOf form) ++ t) (field-forth 2 (afterOf form) rest (f .bank))
+    ∙ field-forth 1 form small (f .policy)
 
-pub storable-read : (form : List ℕ) → formFaults (1 ∷ 2 ∷ []) form ≡ [] → Storable (length (storedBank form))
+pub storable-read : (form : List ℕ) → formFaults storedTags form ≡ [] → Storable (length (storedBank form))
 storable-read form e =
     let b = catalog-fields form e .bank in
     let t = fits-bank _ (b .right) in
@@ -113,8 +165,8 @@ storable-read form e =
 
 module _ (q : KernelInput) where
   pub request-passes : formFaults (3 ∷ []) (requestForm q) ≡ []
-  unfolding requestForm fits equal
-  request-passes = last-passes 3 (inputBytes q) (omega (arith, length-input q)) (rw (length-input q))
+  unfolding requestForm fits equal bodyFaults
+  request-passes = last-passes 3 (inputBytes q) (omega (arith, length-input q)) (rw (length-input q)) refl
 
   pub request-says : Fitting (inputFields q) → SFits w64 (q .«business_value_microunits») → inputOf (bodyOf (requestForm q)) ≡ q
   unfolding requestForm
@@ -123,5 +175,5 @@ module _ (q : KernelInput) where
 pub request-forth : (form : List ℕ) → Small form → formFaults (3 ∷ []) form ≡ [] → requestForm (inputOf (bodyOf form)) ≡ form
 unfolding requestForm
 request-forth form small e =
-    let f = form-passed 3 [] form e in
+    let f = form-passed 3 [] form refl e in
     ap (fieldBytes 3) (input-forth (bodyOf form) (small-body form small) (request-length form (f .0))) ∙ last-forth 3 form small (f .0) (f .1)

@@ -1,8 +1,8 @@
--- The laws of the two forms, and of the calls, and rows on their size.
+-- The laws of the two forms, and of the calls.
 pub mod Writing
 pub mod Reading
 pub mod Answers
 pub mod Trips
 pub mod FormTrips
 pub mod RoundTrips
-mod Sizes
+pub mod Before

@@ -1,8 +1,10 @@
 -- What is read: the parts of a form that passes, and what refuses one. Assumes nothing.
-use Rattle.rules.proofs.Kit.{ℕ, _≤_, _<_, _≡_, sym, ap, _∙_, List, [], _∷_, length}
+use Rattle.rules.proofs.Kit.{ℕ, _≤_, _<_, _≡_, refl, sym, ap, _∙_, List, [], _∷_, length}
 use Rattle.rules.specs.{Bytes.filled, Records.inputOf, Refused.roomFaults, Refused.answered, Refused.firstFault, Refused.toldOutcome, Refused.refused}
-use Rattle.rules.specs.{Stored.bodyOf, Stored.afterOf, Stored.formFaults, Stored.storedPolicy, Stored.storedBank, Stored.readFaults, Stored.readStoredOf}
-use Rattle.rules.specs.{Stored.readStoredBuffer, Stored.readRequestOf, declared.records.KernelInput.KernelInput, declared.records.PolicySnapshot.PolicySnapshot}
+use Rattle.rules.specs.{Stored.bodyOf, Stored.afterOf, Stored.formFaults, Stored.storedTags, Stored.storedPolicy, Stored.storedBank, Stored.readFaults}
+use Rattle.rules.specs.{Stored.readStoredOf}
+use Rattle.rules.specs.{Stored.readStoredBuffer, Stored.readRequestOf, declared.records.KernelInput.KernelInput}
+use Rattle.rules.specs.{declared.records.PolicySnapshot.PolicySnapshot}
 use Rattle.rules.specs.{declared.refusal.Refusal.Refusal, declared.refusal.Outcome.Outcome, declared.refusal.Outcome.the-variants.Answered}
 use Rattle.rules.specs.{declared.refusal.Outcome.the-variants.Refused}
 use Rattle.endian.specs.Put.{patched}
@@ -16,30 +18,30 @@ use Rattle.rules.specs.declared.refusal.Refusal.the-variants as refusal
 pub record CatalogFields (form : List ℕ) : Type 0 where
   pub policy : Passed 1 form
   pub bank : Passed 2 (afterOf form)
-  pub end : formFaults [] (afterOf (afterOf form)) ≡ []
+  pub rounding : formFaults (4 ∷ []) (afterOf (afterOf form)) ≡ []
 
-pub catalog-fields : (form : List ℕ) → formFaults (1 ∷ 2 ∷ []) form ≡ [] → CatalogFields form
+pub catalog-fields : (form : List ℕ) → formFaults storedTags form ≡ [] → CatalogFields form
 catalog-fields form e =
-    let first = form-passed 1 (2 ∷ []) form e in
-    let second = form-passed 2 [] (afterOf form) (first .1) in
-    record { policy = first .0; bank = second .0; end = second .1 }
+    let first = form-passed 1 (2 ∷ 4 ∷ []) form refl e in
+    let second = form-passed 2 (4 ∷ []) (afterOf form) refl (first .1) in
+    record { policy = first .0; bank = second .0; rounding = second .1 }
 
 -- ---- what refuses a stored form
 
-module _ {o : Outcome} (form : List ℕ) (room : ℕ) (h : toldOutcome o ≡ firstFault (formFaults (1 ∷ 2 ∷ []) form)) where
+module _ {o : Outcome} (form : List ℕ) (room : ℕ) (h : toldOutcome o ≡ firstFault (formFaults storedTags form)) where
   -- its own faults come first
   pub reading-refused : {r : Refusal} → o ≡ Refused r → toldOutcome (Refused r) ≡ firstFault (readFaults form room)
   unfolding readFaults
-  reading-refused e = append-refused (formFaults (1 ∷ 2 ∷ []) form) (roomFaults (length (storedBank form)) room) e h
+  reading-refused e = append-refused (formFaults storedTags form) (roomFaults (length (storedBank form)) room) e h
 
   -- then the room
   pub reading-short : o ≡ Answered → room < length (storedBank form) → toldOutcome (Refused refusal.NoRoom) ≡ firstFault (readFaults form room)
   unfolding readFaults
-  reading-short e m = rw (none-told (formFaults (1 ∷ 2 ∷ []) form) e h) (room-short (length (storedBank form)) room m)
+  reading-short e m = rw (none-told (formFaults storedTags form) e h) (room-short (length (storedBank form)) room m)
 
   pub reading-none : o ≡ Answered → length (storedBank form) ≤ room → readFaults form room ≡ []
   unfolding readFaults
-  reading-none e m = rw (none-told (formFaults (1 ∷ 2 ∷ []) form) e h) (room-enough (length (storedBank form)) room m)
+  reading-none e m = rw (none-told (formFaults storedTags form) e h) (room-enough (length (storedBank form)) room m)
 
 -- ---- what is answered where nothing refuses
 

@@ -1,8 +1,9 @@
 -- READING WHAT WAS WRITTEN, AND WRITING WHAT WAS READ, as the four calls meet them. That each number fits its field, and each element of a
 -- form is a byte, is a premise here; the types of the calls give it. Assumes nothing.
 use Rattle.rules.proofs.Kit.{ℕ, _≤_, _≡_, refl, sym, ap, _∙_, List, [], _∷_, length, take, drop, take-at, w64, SFits}
-use Rattle.rules.specs.{Bytes.filled, Records.policyFields, Records.inputFields, Refused.Faults, Refused.roomFaults, Refused.listUnless, Refused.answered}
-use Rattle.rules.specs.{Numbers.StoredPolicy, Stored.formFaults, Stored.storedForm, Stored.writeFaults, Stored.writeStoredOf, Stored.writeStoredBuffer}
+use Rattle.rules.specs.{Bytes.filled, Records.policyNumbers, Records.inputFields, Refused.Faults, Refused.roomFaults, Refused.listUnless, Refused.answered}
+use Rattle.rules.specs.{Numbers.StoredPolicy, Stored.formFaults, Stored.storedForm, Stored.storedTags, Stored.writeFaults, Stored.writeStoredOf}
+use Rattle.rules.specs.{Stored.writeStoredBuffer}
 use Rattle.rules.specs.{Stored.storedPolicy, Stored.storedBank, Stored.readFaults, Stored.readStoredOf, Stored.readStoredBuffer, Stored.requestForm}
 use Rattle.rules.specs.{Stored.writeRequestOf, Stored.writeRequestBuffer, Stored.readRequestOf, declared.records.KernelInput.KernelInput}
 use Rattle.rules.specs.{declared.records.PolicySnapshot.PolicySnapshot}
@@ -30,7 +31,7 @@ written-form p bank out n e =
     (storable-written p bank (length out) (t .0), front-of (writeFaults p bank (length out)) (storedForm p bank) out n (t .0) (t .1))
 
 -- A form that was written is read, where there is room
-form-read : (p : PolicySnapshot) (bank buffer : List ℕ) → Fitting (policyFields p) → Storable (length bank) → length bank ≤ length buffer
+form-read : (p : PolicySnapshot) (bank buffer : List ℕ) → Fitting (policyNumbers p) → Storable (length bank) → length bank ≤ length buffer
     → (readStoredOf (storedForm p bank) (length buffer) ≡ answered (record { policy = p; size = length bank }))
     × (readStoredBuffer (storedForm p bank) buffer ≡ filled bank buffer)
 unfolding readStoredOf readStoredBuffer readFaults
@@ -38,7 +39,7 @@ form-read p bank buffer fit s h =
     rw (stored-passes p bank s, stored-bank p bank s, stored-policy p bank s fit, room-enough (length bank) (length buffer) h) (refl, refl)
 
 -- READING WHAT WAS WRITTEN GIVES THE SAME POLICY AND BANK
-pub write-then-read : (p : PolicySnapshot) (bank out buffer : List ℕ) (n : ℕ) → Fitting (policyFields p)
+pub write-then-read : (p : PolicySnapshot) (bank out buffer : List ℕ) (n : ℕ) → Fitting (policyNumbers p)
     → writeStoredOf p bank (length out) ≡ answered n → length bank ≤ length buffer
     → (readStoredOf (take n (writeStoredBuffer p bank out)) (length buffer) ≡ answered (record { policy = p; size = length bank }))
     × (readStoredBuffer (take n (writeStoredBuffer p bank out)) buffer ≡ filled bank buffer)
@@ -48,11 +49,11 @@ write-then-read p bank out buffer n fit e h =
 
 -- What reading takes, as it stands in the answer and in the buffer
 read-form : (form buffer : List ℕ) (s : StoredPolicy) → readStoredOf form (length buffer) ≡ answered s
-    → (formFaults (1 ∷ 2 ∷ []) form ≡ []) × (s .policy ≡ storedPolicy form) × (take (s .size) (readStoredBuffer form buffer) ≡ storedBank form)
+    → (formFaults storedTags form ≡ []) × (s .policy ≡ storedPolicy form) × (take (s .size) (readStoredBuffer form buffer) ≡ storedBank form)
 unfolding readStoredOf readStoredBuffer readFaults
 read-form form buffer s e =
     let t = none-answered (readFaults form (length buffer)) _ s e in (
-      none-first (formFaults (1 ∷ 2 ∷ []) form) _ (t .0),
+      none-first (formFaults storedTags form) _ (t .0),
       ap (λ (a : StoredPolicy). a .policy) (sym (t .1)),
       front-of (readFaults form (length buffer)) (storedBank form) buffer (s .size) (t .0) (ap (λ (a : StoredPolicy). a .size) (t .1)),
     )
@@ -70,6 +71,17 @@ pub read-then-write : (form buffer out : List ℕ) (s : StoredPolicy) → Small 
 read-then-write form buffer out s small e h =
     let r = read-form form buffer s e in
     rw (r .1, r .2) (form-written (storedPolicy form) (storedBank form) form out (stored-forth form small (r .0)) (storable-read form (r .0)) h)
+
+-- EACH POLICY WITH A BANK HAS ONE STORED FORM: two that are read as the same are the same
+pub one-form : (form other buffer space : List ℕ) (s : StoredPolicy) → Small form → Small other
+    → readStoredOf form (length buffer) ≡ answered s → readStoredOf other (length space) ≡ answered s
+    → take (s .size) (readStoredBuffer form buffer) ≡ take (s .size) (readStoredBuffer other space) → form ≡ other
+one-form form other buffer space s small small′ e h same =
+    let r = read-form form buffer s e in
+    let t = read-form other space s h in
+    let policy : storedPolicy form ≡ storedPolicy other = sym (r .1) ∙ t .1 in
+    let bank : storedBank form ≡ storedBank other = sym (r .2) ∙ same ∙ t .2 in
+    sym (stored-forth form small (r .0)) ∙ (λ i. storedForm (policy i) (bank i)) ∙ stored-forth other small′ (t .0)
 
 -- ---- a request
 

@@ -3,10 +3,10 @@ use Rattle.rules.proofs.Kit.{le-ltb, eq-eqb, ne-eqb, ℕ, _+_, _≤_, _<_, _≡
 use Rattle.rules.proofs.Kit.{length, getD, take, drop, length-append, length-take, length-drop, take-append-drop, drop-cons, drop-drop, take-append-seam}
 use Rattle.rules.proofs.Kit.{drop-append-seam}
 use Rattle.rules.specs.{Limits.fieldHeaderBytes, Bytes.bytesOf, Refused.fault, Stored.fieldBytes, Stored.fits, Stored.tagOf, Stored.bodyLength, Stored.bodyOf}
-use Rattle.rules.specs.{Stored.afterOf, Stored.fieldFaults, Stored.formFaults}
+use Rattle.rules.specs.{Stored.afterOf, Stored.bodyFaults, Stored.fieldFaults, Stored.formFaults}
 use Rattle.endian.proofs.Numbers.{Small, small-take, small-drop, number-bytes, number-one, bytes-number}
 use Rattle.rules.proofs.Faults.{equal-none}
-use Rattle.stored_fields.proofs.OneField.{Passed, first-tag, body-length}
+use Rattle.stored_fields.proofs.OneField.{Passed, passed-there, first-tag, body-length}
 
 -- ---- a field that passes has no fault
 
@@ -19,11 +19,12 @@ field-passes tag s p =
       eq-eqb (tagOf s) tag (p .lead),
       p .right,
       le-ltb (length s) (fieldHeaderBytes + bodyLength s) (p .whole),
+      p .body,
     )
 
 pub form-passes : (tag : ℕ) (tags s : List ℕ) → Passed tag s → formFaults tags (afterOf s) ≡ [] → formFaults (tag ∷ tags) s ≡ []
 unfolding formFaults
-form-passes tag tags s p e = rw (field-passes tag s p, e)
+form-passes tag tags s p e = rw (passed-there tag s p, field-passes tag s p, e)
 
 -- THE END, both ways: nothing is left
 pub end-passes : formFaults [] [] ≡ []
@@ -66,12 +67,13 @@ module _ (tag : ℕ) (body rest : List ℕ) where
     rest-back = rw (written-size, ← drop-drop (length body) fieldHeaderBytes (fieldBytes tag body ++ rest), written-after) (drop-append-seam body rest)
 
     -- IT PASSES
-    pub written-passes : fits tag (length body) ≡ true → Passed tag (fieldBytes tag body ++ rest)
-    written-passes f =
+    pub written-passes : fits tag (length body) ≡ true → bodyFaults tag body ≡ [] → Passed tag (fieldBytes tag body ++ rest)
+    written-passes f b =
         record {
           lead = written-lead;
           right = rw written-size f;
           whole = omega (arith, written-long, written-size);
+          body = rw body-back b;
         }
 
 -- ---- a field that was read

@@ -1,13 +1,14 @@
 -- What is written: its length, and what refuses it. Assumes nothing.
-use Rattle.rules.proofs.Kit.{lt-ltb, le-ltb, ℕ, _+_, _≤_, _<_, _≡_, List, [], _++_, arith, ltb, length, length-append}
-use Rattle.rules.specs.{Limits.fieldHeaderBytes, Limits.policyBytes, Limits.maxStoredModels, Limits.storedRequestBytes, Records.recordsIn, Refused.fault}
+use Rattle.rules.proofs.Kit.{lt-ltb, le-ltb, ℕ, _+_, _≤_, _<_, _≡_, refl, List, [], _∷_, _++_, arith, ltb, length, length-append}
+use Rattle.rules.specs.{Limits.fieldHeaderBytes, Limits.maxStoredModels, Limits.storedRequestBytes, Records.recordsIn, Refused.fault}
 use Rattle.rules.specs.{Refused.refuseIf, Refused.lengthFaults, Refused.roomFaults, Refused.firstFault, Refused.toldOutcome, Stored.fieldBytes}
-use Rattle.rules.specs.{Stored.storedForm, Stored.writeFaults, Stored.requestForm, declared.records.KernelInput.KernelInput}
-use Rattle.rules.specs.{declared.records.PolicySnapshot.PolicySnapshot, declared.refusal.Outcome.Outcome, declared.refusal.Outcome.the-variants.Answered}
+use Rattle.rules.specs.{Stored.roundingField, Stored.storedForm, Stored.writeFaults, Stored.requestForm, declared.records.KernelInput.KernelInput}
+use Rattle.rules.specs.{declared.records.PolicySnapshot.PolicySnapshot, declared.records.Rounding.Rounding, declared.records.Rounding.the-variants.Apart}
+use Rattle.rules.specs.{declared.records.Rounding.the-variants.Once, declared.refusal.Outcome.Outcome, declared.refusal.Outcome.the-variants.Answered}
 use Rattle.rules.specs.{declared.refusal.Outcome.the-variants.Refused}
 use Rattle.endian.proofs.Numbers.{length-bytes}
-use Rattle.packing.proofs.Trips.{length-policy, length-input}
-use Rattle.stored.specs.Writing.{writingFaults}
+use Rattle.packing.proofs.Trips.{length-numbers, length-input}
+use Rattle.stored.specs.Writing.{roundingSize, formSize, writingFaults}
 use Rattle.rules.proofs.Faults.{none-after, room-passed, none-told}
 use Rattle.rules.specs.declared.refusal.Refusal.the-variants as refusal
 
@@ -16,39 +17,45 @@ pub length-field : (tag : ℕ) (body : List ℕ) → length (fieldBytes tag body
 unfolding fieldBytes
 length-field tag body = simp (length-append, length-bytes) (omega arith)
 
-pub length-stored : (p : PolicySnapshot) (bank : List ℕ) → length (storedForm p bank) ≡ fieldHeaderBytes + policyBytes + (fieldHeaderBytes + length bank)
+pub length-rounding : (r : Rounding) → length (roundingField r) ≡ roundingSize r
+unfolding roundingField
+length-rounding Apart = refl
+length-rounding Once = length-field 4 (1 ∷ [])
+
+pub rounding-short : (r : Rounding) → roundingSize r ≤ 4
+rounding-short Apart = omega arith
+rounding-short Once = omega arith
+
+pub length-stored : (p : PolicySnapshot) (bank : List ℕ) → length (storedForm p bank) ≡ formSize (p .rounding) (length bank)
 unfolding storedForm
-length-stored p bank = simp (length-append, length-field, length-policy) (omega arith)
+length-stored p bank = simp (length-append, length-field, length-numbers, length-rounding) (omega arith)
 
 pub length-request : (q : KernelInput) → length (requestForm q) ≡ fieldHeaderBytes + storedRequestBytes
 unfolding requestForm
 length-request q = rw (length-field, length-input)
 
--- WHAT REFUSES A BANK depends on its length and the room alone
-pub writing-refuses : (p : PolicySnapshot) (bank : List ℕ) (room : ℕ) → writingFaults (length bank) room ≡ writeFaults p bank room
+-- WHAT REFUSES A BANK depends on its length, on how the policy rounds, and on the room alone
+pub writing-refuses : (p : PolicySnapshot) (bank : List ℕ) (room : ℕ) → writingFaults (p .rounding) (length bank) room ≡ writeFaults p bank room
 unfolding writingFaults writeFaults
 writing-refuses p bank room = rw (length-stored p bank)
 
--- and where nothing does, there is room for both fields
-pub writing-room : (n room : ℕ) → writingFaults n room ≡ [] → fieldHeaderBytes + policyBytes + (fieldHeaderBytes + n) ≤ room
+-- and where nothing does, there is room for the form
+pub writing-room : (r : Rounding) (n room : ℕ) → writingFaults r n room ≡ [] → formSize r n ≤ room
 unfolding writingFaults
-writing-room n room e =
+writing-room r n room e =
     room-passed _ room (none-after (lengthFaults n ++ refuseIf (ltb maxStoredModels (recordsIn n)) (fault 18)) _ e)
 
 -- The tests after the bank's own: too many to store, no room, none
-module _ {o : Outcome} (n room : ℕ) (e : o ≡ Answered) (h : toldOutcome o ≡ firstFault (lengthFaults n)) where
-  pub writing-many : maxStoredModels < recordsIn n → toldOutcome (Refused refusal.TooManyToStore) ≡ firstFault (writingFaults n room)
+module _ {o : Outcome} (r : Rounding) (n room : ℕ) (e : o ≡ Answered) (h : toldOutcome o ≡ firstFault (lengthFaults n)) where
+  pub writing-many : maxStoredModels < recordsIn n → toldOutcome (Refused refusal.TooManyToStore) ≡ firstFault (writingFaults r n room)
   unfolding writingFaults toldOutcome firstFault
   writing-many m = rw (none-told (lengthFaults n) e h, lt-ltb maxStoredModels (recordsIn n) m)
 
   module _ (few : recordsIn n ≤ maxStoredModels) where
-    pub writing-short : room < fieldHeaderBytes + policyBytes + (fieldHeaderBytes + n)
-        → toldOutcome (Refused refusal.NoRoom) ≡ firstFault (writingFaults n room)
+    pub writing-short : room < formSize r n → toldOutcome (Refused refusal.NoRoom) ≡ firstFault (writingFaults r n room)
     unfolding writingFaults roomFaults toldOutcome firstFault
-    writing-short m =
-        rw (none-told (lengthFaults n) e h, le-ltb maxStoredModels (recordsIn n) few, lt-ltb room (fieldHeaderBytes + policyBytes + (fieldHeaderBytes + n)) m)
+    writing-short m = rw (none-told (lengthFaults n) e h, le-ltb maxStoredModels (recordsIn n) few, lt-ltb room (formSize r n) m)
 
-    pub writing-passed : fieldHeaderBytes + policyBytes + (fieldHeaderBytes + n) ≤ room → toldOutcome Answered ≡ firstFault (writingFaults n room)
+    pub writing-passed : formSize r n ≤ room → toldOutcome Answered ≡ firstFault (writingFaults r n room)
     unfolding writingFaults roomFaults toldOutcome firstFault
-    writing-passed m =
-        rw (none-told (lengthFaults n) e h, le-ltb maxStoredModels (recordsIn n) few, le-ltb room (fieldHeaderBytes + policyBytes + (fieldHeaderBytes + n)) m)
+    writing-passed m = rw (none-told (lengthFaults n) e h, le-ltb maxStoredModels (recordsIn n) few, le-ltb room (formSize r n) m)

@@ -4,11 +4,20 @@ use mathlib.Core.List.{_++_}
 use lib.Dec.{ltb}
 use Rattle.rules.specs.Limits.{fieldHeaderBytes, policyBytes, maxStoredModels}
 use Rattle.rules.specs.Records.{recordsIn}
+use Rattle.rules.specs.declared.records.Rounding.{Rounding}
+use Rattle.rules.specs.declared.records.Rounding.the-variants.{Apart, Once}
 use Rattle.rules.specs.Refused.{Faults, fault, refuseIf, lengthFaults, roomFaults}
 
--- A bank of so many bytes, written into so much room: 1, 2, 18, 4
-unfoldable pub writingFaults : ℕ → ℕ → Faults
-writingFaults n room =
-    lengthFaults n
-    ++ refuseIf (ltb maxStoredModels (recordsIn n)) (fault 18)
-    ++ roomFaults (fieldHeaderBytes + policyBytes + (fieldHeaderBytes + n)) room
+-- How many bytes tell in a stored form that its policy rounds so: none, or tag 4's header and body
+abbrev pub roundingSize : Rounding → ℕ
+roundingSize Apart = 0
+roundingSize Once = fieldHeaderBytes + 1
+
+-- How many bytes a stored form has: tag 1, tag 2 with a bank of so many bytes, and how its policy rounds
+abbrev pub formSize : Rounding → ℕ → ℕ
+formSize rounding n = fieldHeaderBytes + policyBytes + (fieldHeaderBytes + n) + roundingSize rounding
+
+-- A bank of so many bytes, written into so much room, under a policy that rounds so: 1, 2, 18, 4
+unfoldable pub writingFaults : Rounding → ℕ → ℕ → Faults
+writingFaults rounding n room =
+    lengthFaults n ++ refuseIf (ltb maxStoredModels (recordsIn n)) (fault 18) ++ roomFaults (formSize rounding n) room

@@ -1,16 +1,20 @@
-// The stored form of a policy with its bank: tag 1, tag 2, the end.
+// The stored form of a policy with its bank: tag 1, tag 2, tag 4 where the policy rounds once, the end.
 ghost use mathlib.Core.Path.{_≡_};
+ghost use Prim.Native.Nat.{_+_, _≤_};
+ghost use mathlib.Core.Option.{some};
 ghost use lib.ListN.{length};
 ghost use Rattle.rules.specs.Refused.{firstFault, toldOutcome};
 ghost use Rattle.rules.specs.Numbers.{toldStored, toldWritten};
-ghost use Rattle.rules.specs.Stored.{writeStoredOf, writeStoredBuffer, readStoredOf, readStoredBuffer};
-ghost use Rattle.stored.specs.Writing.{writingFaults};
-use bank::unchecked::policy_of;
+ghost use Rattle.rules.specs.Stored.{roundingField, writeStoredOf, writeStoredBuffer, readStoredOf, readStoredBuffer};
+ghost use Rattle.splice.specs.Placed.{placed};
+ghost use Rattle.stored.specs.Writing.{roundingSize, writingFaults};
+use bank::unchecked::policy_with;
 use call_checks::refuse::bank_outcome;
-use packing::policy_bytes;
+use packing::policy_number_bytes;
 use rules::Outcome;
 use rules::PolicySnapshot;
 use rules::Refusal;
+use rules::Rounding;
 use rules::StoredRead;
 use rules::Written;
 use rules::limits::FIELD_HEADER_BYTES;
@@ -20,48 +24,78 @@ use rules::limits::RECORD_BYTES;
 use splice::put_bytes;
 use stored_fields::BANK_TAG;
 use stored_fields::POLICY_TAG;
+use stored_fields::ROUNDING_BYTES;
+use stored_fields::ROUNDING_ONCE;
+use stored_fields::ROUNDING_TAG;
 use stored_fields::after_front;
 use stored_fields::front_body;
 use stored_fields::lay_out;
 use stored_fields::put_field;
+use stored_fields::rounding_in;
 
-// Whether a bank of so many bytes can be written into so much room, and if not, why.
-fn writing(length: usize, room: usize) -> Outcome
-    ensures { λ r. ⌜ toldOutcome r ≡ firstFault (writingFaults length room) ⌝ }
+// How many bytes tell in a stored form that its policy rounds so.
+fn rounding_size(rounding: Rounding) -> usize
+    ensures { λ r. ⌜ r ≡ roundingSize rounding ⌝ }
+{
+    match rounding {
+        Rounding::Apart => 0,
+        Rounding::Once => FIELD_HEADER_BYTES + ROUNDING_BYTES,
+    }
+}
+
+// Whether a bank of so many bytes can be written into so much room, under a policy that rounds so, and if not, why.
+fn writing(rounding: Rounding, length: usize, room: usize) -> Outcome
+    ensures { λ r. ⌜ toldOutcome r ≡ firstFault (writingFaults rounding length room) ⌝ }
 {
     let outcome = bank_outcome(length);
     if let Outcome::Refused(refusal) = outcome {
         return Outcome::Refused(refusal);
     }
+    let fields = FIELD_HEADER_BYTES + POLICY_BYTES + (FIELD_HEADER_BYTES + length);
+    let needed = fields + rounding_size(rounding);
     if MAX_STORED_MODELS < length / RECORD_BYTES {
         return Outcome::Refused(Refusal::TooManyToStore);
     }
-    if room < FIELD_HEADER_BYTES + POLICY_BYTES + (FIELD_HEADER_BYTES + length) {
+    if room < needed {
         return Outcome::Refused(Refusal::NoRoom);
     }
     Outcome::Answered
+}
+
+// Puts tag 4 for rounding once, and nothing for rounding apart; answers the position after it.
+fn put_rounding(out: &mut [u8], at: usize, rounding: Rounding) -> usize
+    requires { ⌜ at + roundingSize rounding ≤ length (now out) ⌝ }
+    ensures { λ r. ⌜ some (r, now (out .exit)) ≡ placed (now (out .entry)) at (roundingField rounding) ⌝ }
+{
+    let once = [ROUNDING_ONCE];
+    match rounding {
+        Rounding::Apart => at,
+        Rounding::Once => put_field(out, at, ROUNDING_TAG, &once),
+    }
 }
 
 // Writes a policy with its bank to the start of a buffer, whose other bytes stay. Refused: 1, 2, 18, 4.
 pub fn write_stored(policy: PolicySnapshot, bank: &[u8], out: &mut [u8]) -> Written
     ensures { λ r. ⌜ (toldWritten r ≡ writeStoredOf policy (now (bank .entry)) (length (now (out .entry)))) × (now (out .exit) ≡ writeStoredBuffer policy (now (bank .entry)) (now (out .entry))) ⌝ }
 {
-    let outcome = writing(bank.len(), out.len());
+    let rounding = policy.rounding;
+    let outcome = writing(rounding, bank.len(), out.len());
     if let Outcome::Refused(refusal) = outcome {
         return Written::Refused(refusal);
     }
-    let head = policy_bytes(policy);
+    let head = policy_number_bytes(policy);
     let next = put_field(out, 0, POLICY_TAG, &head);
-    let end = put_field(out, next, BANK_TAG, bank);
+    let after = put_field(out, next, BANK_TAG, bank);
+    let end = put_rounding(out, after, rounding);
     Written::Bytes(end)
 }
 
 // Reads a policy with its bank. The models' bytes go to the start of a buffer, whose other bytes stay; none is copied before the form's end
-// was seen. Refused: 20 to 22 at each field in its turn, then 4.
+// was seen. Refused: 20 to 23 at each field in its turn, then 4.
 pub fn read_stored(form: &[u8], buffer: &mut [u8]) -> StoredRead
     ensures { λ r. ⌜ (toldStored r ≡ readStoredOf (now (form .entry)) (length (now (buffer .entry)))) × (now (buffer .exit) ≡ readStoredBuffer (now (form .entry)) (now (buffer .entry))) ⌝ }
 {
-    let tags = [POLICY_TAG, BANK_TAG];
+    let tags = [POLICY_TAG, BANK_TAG, ROUNDING_TAG];
     let outcome = lay_out(form, &tags);
     if let Outcome::Refused(refusal) = outcome {
         return StoredRead::Refused(refusal);
@@ -72,6 +106,7 @@ pub fn read_stored(form: &[u8], buffer: &mut [u8]) -> StoredRead
         return StoredRead::Refused(Refusal::NoRoom);
     }
     put_bytes(buffer, 0, bank);
-    let policy = policy_of(front_body(form));
+    let rounding = rounding_in(form);
+    let policy = policy_with(rounding, front_body(form));
     StoredRead::Read(policy, size)
 }

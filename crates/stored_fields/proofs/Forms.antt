@@ -1,12 +1,13 @@
 -- Fields one after the other: how far a form was read, and what its end tells. Assumes nothing.
-use Rattle.rules.proofs.Kit.{eq-eqb, ne-eqb, ℕ, _+_, _-_, _≤_, _<_, _≡_, refl, ap, _∙_, List, [], _∷_, _++_, arith, add-one, length, getD, take, drop}
+use Rattle.rules.proofs.Kit.{eq-eqb, ne-eqb, ℕ, _+_, _-_, _≤_, _<_, _≡_, refl, ap, _∙_, true, false, List, [], _∷_, _++_, arith, add-one, length, getD, take}
+use Rattle.rules.proofs.Kit.{drop}
 use Rattle.rules.proofs.Kit.{length-drop, drop-of-length-le, drop-cons, drop-drop, take-all}
-use Rattle.rules.specs.{Refused.firstFault, Refused.toldOutcome, Limits.fieldHeaderBytes, Stored.afterOf, Stored.fieldFaults, Stored.formFaults}
-use Rattle.rules.specs.{declared.refusal.Refusal.Refusal}
-use Rattle.stored_fields.specs.{Fields.toldField, Fields.fieldOf, declared.Field.Field, declared.Field.the-variants.Body}
+use Rattle.rules.specs.{Refused.firstFault, Refused.toldOutcome, Stored.afterOf, Stored.leftOut, Stored.dueFaults, Stored.afterDue}
+use Rattle.rules.specs.{Stored.formFaults, declared.refusal.Refusal.Refusal}
+use Rattle.stored_fields.specs.{Fields.toldField, Fields.dueOf, declared.Field.Field, declared.Field.the-variants.Bytes}
 use Rattle.stored_fields.specs.{declared.Field.the-variants.Refused}
 use Rattle.rules.proofs.Faults.{none-after, none-first}
-use Rattle.stored_fields.proofs.OneField.{Passed, field-passed, body-told, refused-told}
+use Rattle.stored_fields.proofs.OneField.{Passed, due-passed, due-after, due-within, size-told, refused-told}
 use Rattle.rules.specs.declared.refusal.Refusal.the-variants as refusal
 use Rattle.rules.specs.declared.refusal.Outcome.the-variants as outcome
 
@@ -24,29 +25,28 @@ read-none tags form = record { within = omega arith; same = refl }
 
 -- the field that is due, and what comes after it
 due : (tags form : List ℕ) (i at : ℕ) → i < length tags
-    → formFaults (drop i tags) (drop at form) ≡ fieldFaults (getD tags i 0) (drop at form) ++ formFaults (drop (i + 1) tags) (afterOf (drop at form))
+    → formFaults (drop i tags) (drop at form)
+    ≡ dueFaults (getD tags i 0) (drop at form) ++ formFaults (drop (i + 1) tags) (afterDue (getD tags i 0) (drop at form))
 unfolding formFaults
 due tags form i at h = rw (drop-cons tags i 0 h, add-one i)
 
 module _ {tags form : List ℕ} {i at : ℕ} (r : ReadTo tags form i at) (h : i < length tags) (f : Field)
-    (told : toldField f ≡ fieldOf (getD tags i 0) (take (length form - at) (drop at form))) where
-  told-here : toldField f ≡ fieldOf (getD tags i 0) (drop at form)
-  told-here = told ∙ ap (fieldOf (getD tags i 0)) (to-end form at)
+    (told : toldField f ≡ dueOf (getD tags i 0) (take (length form - at) (drop at form))) where
+  told-here : toldField f ≡ dueOf (getD tags i 0) (drop at form)
+  told-here = told ∙ ap (dueOf (getD tags i 0)) (to-end form at)
 
   -- ONE FIELD MORE lies within the form
-  pub read-within : {n : ℕ} → f ≡ Body n → at + (fieldHeaderBytes + n) ≤ length form
+  pub read-within : {n : ℕ} → f ≡ Bytes n → at + n ≤ length form
   read-within {n} e =
-      let t = body-told (getD tags i 0) (drop at form) e told-here in
-      let p : Passed (getD tags i 0) (drop at form) = field-passed (getD tags i 0) (drop at form) (t .0) in
-      omega (arith, p .whole, t .1, length-drop at form, r .within)
+      let t = size-told (getD tags i 0) (drop at form) e told-here in
+      omega (arith, due-within (getD tags i 0) (drop at form) (t .0), t .1, length-drop at form, r .within)
 
-  pub read-more : {n : ℕ} → f ≡ Body n → ReadTo tags form (i + 1) (at + (fieldHeaderBytes + n))
-  unfolding afterOf
+  pub read-more : {n : ℕ} → f ≡ Bytes n → ReadTo tags form (i + 1) (at + n)
   read-more {n} e =
-      let t = body-told (getD tags i 0) (drop at form) e told-here in
+      let t = size-told (getD tags i 0) (drop at form) e told-here in
       record {
         within = read-within e;
-        same = r .same ∙ due tags form i at h ∙ rw (t .0, ← t .1, drop-drop (fieldHeaderBytes + n) at form);
+        same = r .same ∙ due tags form i at h ∙ rw (t .0, due-after (getD tags i 0) (drop at form), ← t .1, drop-drop n at form);
       }
 
   -- A FIELD THAT IS REFUSED refuses the form
@@ -54,9 +54,20 @@ module _ {tags form : List ℕ} {i at : ℕ} (r : ReadTo tags form i at) (h : i 
   read-refused e = rw (r .same, due tags form i at h) (refused-told (getD tags i 0) (drop at form) _ e told-here)
 
 -- A FORM THAT PASSES: its first field does, and so does what comes after that
-pub form-passed : (tag : ℕ) (tags s : List ℕ) → formFaults (tag ∷ tags) s ≡ [] → Passed tag s × (formFaults tags (afterOf s) ≡ [])
-unfolding formFaults
-form-passed tag tags s e = (field-passed tag s (none-first (fieldFaults tag s) _ e), none-after (fieldFaults tag s) _ e)
+module _ (tag : ℕ) (tags s : List ℕ) where
+  pub form-due : formFaults (tag ∷ tags) s ≡ [] → (dueFaults tag s ≡ []) × (formFaults tags (afterDue tag s) ≡ [])
+  unfolding formFaults
+  form-due e = (none-first (dueFaults tag s) _ e, none-after (dueFaults tag s) _ e)
+
+  pub form-passed : leftOut tag s ≡ false → formFaults (tag ∷ tags) s ≡ [] → Passed tag s × (formFaults tags (afterOf s) ≡ [])
+  form-passed m e =
+      let t = form-due e in
+      (due-passed tag s m (t .0), rw m at (t .1))
+
+  -- A FIELD THAT IS MISSING changes nothing
+  pub form-left-out : leftOut tag s ≡ true → formFaults (tag ∷ tags) s ≡ formFaults tags s
+  unfolding formFaults
+  form-left-out m = rw m
 
 -- THE END, once all fields are read
 module _ {tags form : List ℕ} {i at : ℕ} (r : ReadTo tags form i at) (h : length tags ≤ i) where

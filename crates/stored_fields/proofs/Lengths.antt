@@ -1,7 +1,8 @@
 -- The lengths that a tag allows, and those of the bodies of fields that pass. Assumes nothing.
-use Rattle.rules.proofs.Kit.{ℕ, _/_, _%_, _≤_, _≡_, refl, _∙_, Bool, true, false, _&&_, List, arith, eqb-true, leb-true, eqb, leb, length}
-use Rattle.rules.specs.{Limits.policyBytes, Limits.storedRecordBytes, Limits.storedRequestBytes, Limits.maxStoredModels, Choice.equal, Stored.fits}
-use Rattle.rules.specs.{Stored.bodyOf}
+use Rattle.rules.proofs.Kit.{ℕ, _/_, _%_, _≤_, _≡_, refl, _∙_, Bool, true, false, _&&_, List, [], _∷_, arith, eqb-true, leb-true, eqb, leb, length}
+use Rattle.rules.specs.{Limits.policyBytes, Limits.storedRecordBytes, Limits.storedRequestBytes, Limits.maxStoredModels, Choice.equal, Bytes.number}
+use Rattle.rules.specs.{Refused.fault, Stored.fits, Stored.bodyOf, Stored.bodyFaults}
+use Rattle.rules.proofs.Faults.{equal-none}
 use Rattle.stored_fields.proofs.OneField.{Passed, body-length}
 
 pub fits-policy : (n : ℕ) → fits 1 n ≡ true → n ≡ policyBytes
@@ -11,6 +12,10 @@ fits-policy n e = eqb-true n policyBytes e
 pub fits-request : (n : ℕ) → fits 3 n ≡ true → n ≡ storedRequestBytes
 unfolding fits equal
 fits-request n e = eqb-true n storedRequestBytes e
+
+pub fits-rounding : (n : ℕ) → fits 4 n ≡ true → n ≡ 1
+unfolding fits equal
+fits-rounding n e = eqb-true n 1 e
 
 both : (a b : Bool) → (a && b) ≡ true → (a ≡ true) × (b ≡ true)
 both true b e = (refl, e)
@@ -28,3 +33,17 @@ policy-length s p = body-length s (p .whole) ∙ fits-policy _ (p .right)
 
 pub request-length : (s : List ℕ) → Passed 3 s → length (bodyOf s) ≡ storedRequestBytes
 request-length s p = body-length s (p .whole) ∙ fits-request _ (p .right)
+
+-- and that of tag 4 is 1
+one-element : (bs : List ℕ) → length bs ≡ 1 → number bs ≡ 1 → bs ≡ 1 ∷ []
+unfolding number
+one-element [] e h = absurd (omega arith)
+one-element (b ∷ []) e h =
+    let one : b ≡ 1 = omega arith in
+    rw one
+one-element (b ∷ c ∷ bs) e h = absurd (omega arith)
+
+pub rounding-body : (s : List ℕ) → Passed 4 s → bodyOf s ≡ 1 ∷ []
+unfolding bodyFaults
+rounding-body s p =
+    one-element (bodyOf s) (body-length s (p .whole) ∙ fits-rounding _ (p .right)) (equal-none (number (bodyOf s)) 1 (fault 23) (p .body))

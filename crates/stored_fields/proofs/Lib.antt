@@ -2,4 +2,5 @@
 pub mod Buffers
 pub mod OneField
 pub mod Forms
+pub mod Before
 pub mod Lengths

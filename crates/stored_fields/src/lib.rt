@@ -5,13 +5,15 @@ ghost use Prim.Native.Nat.{_+_, _≤_};
 ghost use lib.ListN.{length};
 ghost use Rattle.rules.specs.Refused.{firstFault, toldOutcome};
 ghost use Rattle.rules.specs.Limits.{fieldHeaderBytes};
-ghost use Rattle.rules.specs.Stored.{fits as fitsTag, fieldBytes, bodyOf, afterOf, formFaults};
+ghost use Rattle.rules.specs.Stored.{fits as fitsTag, fieldBytes, bodyOf, afterOf, leftOut, dueFaults, afterDue, formFaults, storedRounding};
+ghost use mathlib.Core.List.{[]};
 ghost use mathlib.Core.Option.{some};
 ghost use Rattle.splice.specs.Placed.{placed};
-ghost use Rattle.stored_fields.specs.Fields.{toldField, fieldOf, Whole};
+ghost use Rattle.stored_fields.specs.Fields.{unknownBody, toldField, fieldOf, dueOf, Headed, Whole};
 use endian::u16_at;
 use rules::Outcome;
 use rules::Refusal;
+use rules::Rounding;
 use rules::limits::FIELD_HEADER_BYTES;
 use rules::limits::MAX_STORED_MODELS;
 use rules::limits::POLICY_BYTES;
@@ -25,10 +27,17 @@ pub const BANK_TAG: u8 = 2;
 
 pub const REQUEST_TAG: u8 = 3;
 
+pub const ROUNDING_TAG: u8 = 4;
+
+// Tag 4's body: one byte, which says that the policy rounds once. Nothing else is said by it, since apart is said by its absence.
+pub const ROUNDING_BYTES: usize = 1;
+
+pub const ROUNDING_ONCE: u8 = 1;
+
 // What stands where a field is due.
 pub enum Field {
-    // A whole field, with a body of so many bytes after its header.
-    Body(usize),
+    // A whole field of so many bytes, its header's among them; none where it is left out, and may be.
+    Bytes(usize),
     Refused(Refusal),
 }
 
@@ -45,12 +54,50 @@ fn fits(tag: u8, n: usize) -> bool
     if tag == REQUEST_TAG {
         return n == STORED_REQUEST_BYTES;
     }
+    if tag == ROUNDING_TAG {
+        return n == ROUNDING_BYTES;
+    }
     false
 }
 
-// The field with a tag at the front of some bytes. Refused: 21 where no byte stands there, 20 for a cut header, 21 for another tag, 22 for
-// a length that the tag doesn't have, 20 for a cut body.
-pub fn front_field(form: &[u8], tag: u8) -> Field
+// Whether the body after a header is one that the tag doesn't have: tag 4's begins with another byte than 1.
+fn is_unknown(form: &[u8], tag: u8) -> bool
+    ensures { λ r. ⌜ r ≡ unknownBody tag (now (form .entry)) ⌝ }
+{
+    if tag != ROUNDING_TAG {
+        return false;
+    }
+    if form.len() <= FIELD_HEADER_BYTES {
+        return true;
+    }
+    form[FIELD_HEADER_BYTES] != ROUNDING_ONCE
+}
+
+// The field at the front of some bytes, once its header with the tag stands there. Refused: 22 for a length that the tag doesn't have, 20
+// for a cut body, 23 for a body that it doesn't have.
+fn headed_field(form: &[u8], tag: u8) -> Field
+    requires { ⌜ Headed tag (now form) ⌝ }
+    ensures { λ r. ⌜ toldField r ≡ fieldOf tag (now (form .entry)) ⌝ }
+{
+    let n = u16_at(form, 1) as usize;
+    let size = FIELD_HEADER_BYTES + n;
+    let fitting = fits(tag, n);
+    let unknown = is_unknown(form, tag);
+    if !fitting {
+        return Field::Refused(Refusal::WrongLength);
+    }
+    if size <= form.len() {
+        if unknown {
+            return Field::Refused(Refusal::UnknownRounding);
+        }
+        return Field::Bytes(size);
+    }
+    Field::Refused(Refusal::CutShort)
+}
+
+// The field with a tag at the front of some bytes. Refused: 21 where no byte stands there, 20 for a cut header, 21 for another tag, then
+// 22, 20, 23.
+fn front_field(form: &[u8], tag: u8) -> Field
     ensures { λ r. ⌜ toldField r ≡ fieldOf tag (now (form .entry)) ⌝ }
 {
     if form.len() == 0 {
@@ -62,30 +109,46 @@ pub fn front_field(form: &[u8], tag: u8) -> Field
     if form[0] != tag {
         return Field::Refused(Refusal::WrongTag);
     }
-    let n = u16_at(form, 1) as usize;
-    if !fits(tag, n) {
-        return Field::Refused(Refusal::WrongLength);
+    headed_field(form, tag)
+}
+
+// Whether a tag that may be left out at the front of some bytes is: tag 4, where no byte 4 stands there.
+fn is_left_out(form: &[u8], tag: u8) -> bool
+    ensures { λ r. ⌜ r ≡ leftOut tag (now (form .entry)) ⌝ }
+{
+    if tag != ROUNDING_TAG {
+        return false;
     }
-    if FIELD_HEADER_BYTES + n <= form.len() {
-        return Field::Body(n);
+    if form.len() == 0 {
+        return true;
     }
-    Field::Refused(Refusal::CutShort)
+    form[0] != ROUNDING_TAG
+}
+
+// The same field, unless it may be left out and is.
+fn due_field(form: &[u8], tag: u8) -> Field
+    ensures { λ r. ⌜ toldField r ≡ dueOf tag (now (form .entry)) ⌝ }
+{
+    if is_left_out(form, tag) {
+        return Field::Bytes(0);
+    }
+    front_field(form, tag)
 }
 
 // Whether fields with these tags stand one after the other, then the end, and if not, why: at each field in its turn 20 for a cut
-// header, 21, 22, and 20 for a cut body; then 21 for any byte after the last one.
+// header, 21, 22, 20 for a cut body, and 23; then 21 for any byte after the last one. Tag 4 may be left out.
 pub fn lay_out(form: &[u8], tags: &[u8]) -> Outcome
     ensures { λ r. ⌜ toldOutcome r ≡ firstFault (formFaults (now (tags .entry)) (now (form .entry))) ⌝ }
 {
     let mut at = 0;
     let mut i = 0;
     while i < tags.len() {
-        let field = front_field(&form[at..], tags[i]);
+        let field = due_field(&form[at..], tags[i]);
         let n = match field {
-            Field::Body(n) => n,
+            Field::Bytes(n) => n,
             Field::Refused(refusal) => return Outcome::Refused(refusal),
         };
-        at = at + (FIELD_HEADER_BYTES + n);
+        at = at + n;
         i += 1;
     }
     if at < form.len() {
@@ -110,6 +173,28 @@ pub fn after_front(form: &[u8]) -> &[u8]
 {
     let end = FIELD_HEADER_BYTES + u16_at(form, 1) as usize;
     &form[end..]
+}
+
+// What stands after the field with a tag, which may be left out.
+pub fn after_due(form: &[u8], tag: u8) -> &[u8]
+    requires { ⌜ dueFaults tag (now form) ≡ [] ⌝ }
+    ensures { λ r. ⌜ now r ≡ afterDue tag (now (form .entry)) ⌝ }
+{
+    if is_left_out(form, tag) {
+        return form;
+    }
+    after_front(form)
+}
+
+// How the policy at the front of a form rounds: once where tag 4 stands after the catalogue.
+pub fn rounding_in(form: &[u8]) -> Rounding
+    requires { ⌜ Whole (now form) × Whole (afterOf (now form)) ⌝ }
+    ensures { λ r. ⌜ r ≡ storedRounding (now (form .entry)) ⌝ }
+{
+    if is_left_out(after_front(after_front(form)), ROUNDING_TAG) {
+        return Rounding::Apart;
+    }
+    Rounding::Once
 }
 
 // Puts a field into a buffer from a position on, and answers the position after it.

@@ -1,7 +1,8 @@
 -- ANY TWO PERMITTED ANSWERS ARE EQUAL, for each call that a user makes. Assumes nothing.
 use Rattle.rules.proofs.Kit.{ℕ, List}
-use Rattle.rules.specs.{Records.modelOf, Records.inputOf, Records.policyOf}
+use Rattle.rules.specs.{Records.modelOf, Records.inputOf, Numbers.toldPolicy, Stored.readPolicyOf}
 use Rattle.rules.proofs.Told.{Same, one-itself}
+use Rattle.rules.proofs.ToldStored as stored
 
 module _ (bytes : List ℕ) where
   pub one-model : Same (λ r. r) (modelOf bytes)
@@ -10,5 +11,5 @@ module _ (bytes : List ℕ) where
   pub one-input : Same (λ r. r) (inputOf bytes)
   one-input = one-itself _
 
-  pub one-policy : Same (λ r. r) (policyOf bytes)
-  one-policy = one-itself _
+  pub one-policy : Same toldPolicy (readPolicyOf bytes)
+  one-policy = stored.one-policy _

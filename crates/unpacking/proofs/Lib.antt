@@ -1,2 +1,3 @@
--- That a call has one permitted answer.
+-- What a policy's bytes tell, and that a call has one permitted answer.
+pub mod Policies
 pub mod Answers

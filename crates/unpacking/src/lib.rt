@@ -1,23 +1,27 @@
 // For other crates: the models, requests and policies that bytes say. Every layout is packed: each field starts where the one before it ends.
-// What reads a slice asks its caller for enough bytes; what reads an array (`whole`) asks nothing, and `bank` passes it on to users.
+// What reads a slice asks its caller for enough bytes; what reads an array (`whole`), or refuses (`policy_from`), asks nothing, and `bank`
+// passes it on to users.
 ghost use mathlib.Core.Path.{_≡_};
 ghost use Prim.Native.Nat.{_≤_};
 ghost use lib.ListN.{length};
-ghost use Rattle.rules.specs.Limits.{recordBytes, requestBytes, policyBytes};
-ghost use Rattle.rules.specs.Records.{modelOf, inputOf, policyOf};
+ghost use Rattle.rules.specs.Limits.{recordBytes, requestBytes};
+ghost use Rattle.rules.specs.Records.{modelOf, inputOf};
 use endian::signed;
 use endian::u16_at;
 use endian::u32_at;
 use endian::u64_at;
 use rules::KernelInput;
 use rules::KernelModel;
-use rules::PolicySnapshot;
 
+mod policy;
 mod whole;
 
+pub use policy::policy_from;
+pub use policy::policy_lent_outcome;
+pub use policy::policy_of;
+pub use policy::policy_with;
 pub use whole::input_from;
 pub use whole::model_from;
-pub use whole::policy_from;
 
 // The model that a record's bytes say.
 pub fn model_of(s: &[u8]) -> KernelModel
@@ -57,20 +61,5 @@ pub fn input_of(s: &[u8]) -> KernelInput
         required_capabilities: u64_at(s, 46),
         allowed_provider_mask: u64_at(s, 54),
         required_region_mask: u64_at(s, 62),
-    }
-}
-
-// The policy that a policy's bytes say.
-pub fn policy_of(s: &[u8]) -> PolicySnapshot
-    requires { ⌜ policyBytes ≤ length (now s) ⌝ }
-    ensures { λ r. ⌜ r ≡ policyOf (now (s .entry)) ⌝ }
-{
-    PolicySnapshot {
-        policy_epoch: u64_at(s, 0),
-        catalog_epoch: u64_at(s, 8),
-        hard_risk_limit_bps: u16_at(s, 16),
-        minimum_confidence_bps: u16_at(s, 18),
-        risk_penalty_multiplier_bps: u16_at(s, 20),
-        latency_penalty_microunits_per_ms: u64_at(s, 22),
     }
 }

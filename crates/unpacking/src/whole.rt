@@ -1,14 +1,11 @@
-// A model, a request and a policy from an array of exactly their bytes: what users call, since nothing is asked of it.
+// A model and a request from an array of exactly their bytes: what users call, since nothing is asked of it.
 ghost use mathlib.Core.Path.{_≡_};
-ghost use Rattle.rules.specs.Records.{modelOf, inputOf, policyOf};
+ghost use Rattle.rules.specs.Records.{modelOf, inputOf};
 use crate::input_of;
 use crate::model_of;
-use crate::policy_of;
 use rules::KernelInput;
 use rules::KernelModel;
-use rules::PolicySnapshot;
 use rules::limits::ModelBytes;
-use rules::limits::PolicyBytes;
 use rules::limits::RequestBytes;
 
 // The model that 47 bytes say.
@@ -23,11 +20,4 @@ pub fn input_from(bytes: &RequestBytes) -> KernelInput
     ensures { λ r. ⌜ r ≡ inputOf (now (bytes .entry)) ⌝ }
 {
     input_of(bytes)
-}
-
-// The policy that 30 bytes say.
-pub fn policy_from(bytes: &PolicyBytes) -> PolicySnapshot
-    ensures { λ r. ⌜ r ≡ policyOf (now (bytes .entry)) ⌝ }
-{
-    policy_of(bytes)
 }

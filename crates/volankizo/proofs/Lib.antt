@@ -1,2 +1,3 @@
--- That any two permitted answers are equal.
+-- That any two permitted answers are equal, and rows on the largest banks.
 pub mod Answers
+mod Sizes

@@ -1,6 +1,6 @@
 //! The worked example, and a seeded source of numbers.
 #![allow(dead_code)]
-use volankizo::{Bank, KernelInput, KernelModel, PolicySnapshot, ALL_PROVIDERS};
+use volankizo::{Bank, KernelInput, KernelModel, PolicySnapshot, Rounding, ALL_PROVIDERS};
 
 pub const POLICY: PolicySnapshot = PolicySnapshot {
     policy_epoch: 7,
@@ -9,7 +9,11 @@ pub const POLICY: PolicySnapshot = PolicySnapshot {
     minimum_confidence_bps: 2_000,
     risk_penalty_multiplier_bps: 10_000,
     latency_penalty_microunits_per_ms: 10,
+    rounding: Rounding::Apart,
 };
+
+/// The same, rounding once.
+pub const ONCE: PolicySnapshot = PolicySnapshot { rounding: Rounding::Once, ..POLICY };
 
 pub const FIRST: KernelModel = KernelModel {
     model_id: 1,

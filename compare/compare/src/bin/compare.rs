@@ -4,9 +4,10 @@
 use compare::calls::{Disagreement, CALLS, CHECKED, EXPLAIN, MARGIN, PRESCRIBE, WIN};
 use compare::case::Case;
 use compare::figures::{Figures, Table, SEARCHED};
-use compare::generate::{Asked, Space, DRAWS, SPACES};
+use compare::generate::{Asked, Draw, Space, DRAWS, SPACES};
 use compare::library::Library;
-use compare::second::bytes::{models_of, policy_of, request_of, POLICY_BYTES, RECORD_BYTES, REQUEST_BYTES};
+use compare::second::bytes::{models_of, policy_of, request_of, RECORD_BYTES, REQUEST_BYTES};
+use compare::second::refusals;
 use compare::versus::{differs, reduced, Batch, Difference, Named, Owing};
 use std::env;
 use std::process::exit;
@@ -107,7 +108,7 @@ fn random_cases(run: &mut Run, wanted: &Wanted) -> Figures {
         let count = (wanted.count * draws.share).div_ceil(100);
         for number in wanted.from..wanted.from + count {
             let name = format!("{} case {number} of seed {}", draws.name, wanted.seed);
-            run.ask(&mut figures, &draws.asked, (draws.case)(wanted.seed, number), name);
+            run.ask(&mut figures, &draws.asked, (draws.case)(Draw::of(wanted.seed, number)), name);
             if run.shown.elapsed() > PAUSE {
                 run.show(&format!("{}: {} of {count} cases", draws.name, number + 1 - wanted.from));
             }
@@ -198,7 +199,7 @@ fn end_apart(call: usize, named: &Named, apart: &Disagreement) -> ! {
 
 /// The inputs read as fields, where their lengths allow it and they aren't too many to look at.
 fn show_fields(case: &Case) {
-    if case.policy.len() == POLICY_BYTES {
+    if refusals::policy(&case.policy).is_ok() {
         println!("{:?}", policy_of(&case.policy));
     }
     if case.request.len() == REQUEST_BYTES {

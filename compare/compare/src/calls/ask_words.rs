@@ -15,6 +15,7 @@ pub const CALL: Call = Call {
     many_passes: true,
     need,
     second,
+    rules: program::rules,
     answer,
     ..PLAIN
 };

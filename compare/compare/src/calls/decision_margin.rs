@@ -6,7 +6,7 @@ use crate::judges::Judge;
 use crate::second::boundaries::boundaries_bytes;
 use crate::second::refusals::{Refusal, REJECTION};
 
-/// 22, 1, 2, 4 as in `what_would_win`; then 6, where there is no margin.
+/// 22, 23, 1, 2, 4 as in `what_would_win`; then 6, where there is no margin.
 pub const CALL: Call = Call {
     name: "decision_margin",
     takes: &[Handed::Policy, Handed::Request, Handed::Bank, Handed::Out],

@@ -26,9 +26,9 @@ fn list_need(ask: &Ask) -> usize {
     ask.bank.len() / RECORD_BYTES * EXPLANATION_BYTES
 }
 
-/// 22, 1, 2, 4 for the buffer, then 4 for the list: no record goes there where the request is stopped.
+/// 22, 23, 1, 2, 4 for the buffer, then 4 for the list: no record goes there where the request is stopped.
 fn second(ask: &Ask) -> Passed {
-    refusals::field_lengths(ask.policy, ask.request)?;
+    refusals::policy_and_request(ask.policy, ask.request)?;
     refusals::bank(ask.bank)?;
     refusals::room(ask.room, DECISION_BYTES)?;
     refusals::room(ask.list_room, if is_stopped(&question(ask)) { 0 } else { list_need(ask) })

@@ -4,7 +4,7 @@ use crate::case::{hex, Ask, Case};
 use crate::judges::{Judge, Reading, TheRust};
 use crate::second::bytes::{models_of, policy_of, request_of};
 use crate::second::deciding::Question;
-use crate::second::refusals::{Passed, Refusal};
+use crate::second::refusals::{self, Passed, Refusal};
 use crate::second::rules::Rules;
 use std::fmt;
 
@@ -138,6 +138,8 @@ pub struct Call {
     pub list_need: fn(&Ask) -> usize,
     /// What the second reading alone says: the refusals that come before anything else, in their order.
     pub second: fn(&Ask) -> Passed,
+    /// By which rules it owes its answer: those that the policy names. An input that is refused before is decided by none.
+    pub rules: fn(&Ask) -> Rules,
     /// What a judge answers to an input that passed, in document 01's bytes and numbers. It is told by the second reading where no judge
     /// is asked.
     pub answer: fn(&Ask, &dyn Judge) -> Answer,
@@ -152,6 +154,7 @@ const PLAIN: Call = Call {
     need: nothing,
     list_need: nothing,
     second: |_| Ok(()),
+    rules,
     answer: |_, _| Answer::default(),
 };
 
@@ -202,12 +205,13 @@ impl Call {
     /// The case as this call sees it.
     pub fn ask<'a>(&self, case: &'a Case) -> Ask<'a> {
         let mut ask = case.ask(self.tags);
+        ask.rules = (self.rules)(&ask);
         ask.room = case.room.bytes((self.need)(&ask));
         ask.list_room = case.list_room.bytes((self.list_need)(&ask));
         ask
     }
 
-    /// What the second reading answers by the rules of the case. It is asked once.
+    /// What the second reading answers by the rules of the ask. It is made once.
     pub fn reading<'a>(&self, ask: &'a Ask) -> &'a Answer {
         ask.read.get_or_init(|| (self.answer)(ask, &Reading { passes: &ask.passes }))
     }
@@ -260,7 +264,12 @@ impl Call {
 /// What is decided, for a question that passed.
 fn question(ask: &Ask) -> Question {
     let (policy, request, models) = (policy_of(ask.policy), request_of(ask.request), models_of(ask.bank));
-    Question { rules: ask.rules, policy, request, models }
+    Question { policy: policy.by(ask.rules), request, models }
+}
+
+/// Of the policy that is lent, or that the list which is read was explained by.
+fn rules(ask: &Ask) -> Rules {
+    refusals::policy(ask.policy).map_or(Rules::RUST, |()| Rules::of(&policy_of(ask.policy)))
 }
 
 /// For a call that has no buffer for an answer.

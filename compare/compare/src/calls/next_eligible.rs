@@ -29,7 +29,7 @@ fn answer(ask: &Ask, judge: &dyn Judge) -> Answer {
 
 /// What is explained, where that is the list and there is one: of a question that `explain` would refuse there is none.
 fn explained(ask: &Ask) -> Option<Question> {
-    let sound = refusals::field_lengths(ask.policy, ask.request).is_ok() && refusals::bank(ask.bank).is_ok();
+    let sound = refusals::policy_and_request(ask.policy, ask.request).is_ok() && refusals::bank(ask.bank).is_ok();
     (sound && *ask.listed == Listed::Explained).then(|| question(ask))
 }
 

@@ -18,9 +18,9 @@ pub(super) fn need(_: &Ask) -> usize {
     TRACED_BYTES
 }
 
-/// 22, 1, 2, 4.
+/// 22 of either, 23, 1, 2, 4.
 pub(super) fn second(ask: &Ask) -> Passed {
-    refusals::field_lengths(ask.policy, ask.request)?;
+    refusals::policy_and_request(ask.policy, ask.request)?;
     refusals::bank(ask.bank)?;
     refusals::room(ask.room, TRACED_BYTES)
 }

@@ -5,7 +5,7 @@ use crate::case::Ask;
 use crate::judges::Judge;
 use crate::second::bytes::traced_bytes;
 
-/// 22, 1, 2, 4 as in `prescribe`; then 3, which a judge tells.
+/// 22, 23, 1, 2, 4 as in `prescribe`; then 3, which a judge tells.
 pub const CALL: Call = Call {
     name: "prescribe_checked",
     takes: &[Handed::Policy, Handed::Request, Handed::Bank, Handed::Out],

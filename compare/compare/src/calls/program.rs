@@ -8,6 +8,7 @@ use crate::second::deciding::Question;
 use crate::second::forms::input_of;
 use crate::second::printed::refused_line;
 use crate::second::refusals::{self, Passed, Refusal};
+use crate::second::rules::Rules;
 
 /// What one of the calls prints for an input that passed, or why it is refused.
 type Report = fn(&dyn Judge, &Question, u32) -> Result<String, Refusal>;
@@ -27,13 +28,18 @@ pub fn second(call: &Call, ask: &Ask) -> Passed {
     refusals::room(ask.room, need(call, ask))
 }
 
-/// The text of a call's own, or the line for bad input: 20 to 22 and 19, which the Rust doesn't have, then those of the judge.
+/// Of the policy in the form.
+pub fn rules(ask: &Ask) -> Rules {
+    input_of(&ask.form).map_or(Rules::RUST, |input| Rules::of(&input.policy))
+}
+
+/// The text of a call's own, or the line for bad input: 20 to 23 and 19, which the Rust doesn't have, then those of the judge.
 pub fn answer(ask: &Ask, judge: &dyn Judge, report: Report) -> Answer {
     let (by, told) = match input_of(&ask.form) {
         Err(refusal) => (By::Second, Err(refusal)),
         Ok(input) => {
-            let (policy, request, models) = (input.policy, input.request, models_of(input.bank));
-            let question = Question { rules: ask.rules, policy, request, models };
+            let (policy, request, models) = (input.policy.by(ask.rules), input.request, models_of(input.bank));
+            let question = Question { policy, request, models };
             (By::Printed, judged(judge, &question, ask.id, report))
         }
     };

@@ -2,6 +2,7 @@
 use super::{Answer, Call, Handed, PLAIN};
 use crate::case::Ask;
 use crate::judges::Judge;
+use crate::second::bytes::long_policy_bytes;
 use crate::second::forms::{stored_of, READ_BYTES, STORED_FORM};
 use crate::second::refusals::{self, Passed};
 
@@ -25,7 +26,8 @@ fn list_need(ask: &Ask) -> usize {
     stored_of(&ask.form).map_or(ask.bank.len(), |(_, models)| models.len())
 }
 
-/// The form's own (at each field 21 for no byte, 20, 21, 22, 20; then 21 for a byte after the last), then 4 of either buffer.
+/// The form's own (at each field 21 for no byte, 20, 21, 22, 20, and of the one that says how to round 23; then 21 for a byte after the last),
+/// then 4 of either buffer.
 fn second(ask: &Ask) -> Passed {
     let (_, models) = stored_of(&ask.form)?;
     refusals::room(ask.list_room, models.len())?;
@@ -34,6 +36,6 @@ fn second(ask: &Ask) -> Passed {
 
 fn answer(ask: &Ask, _: &dyn Judge) -> Answer {
     let (policy, models) = stored_of(&ask.form).expect("it passed");
-    let out = [policy, &(models.len() as u64).to_le_bytes()].concat();
+    let out = [&long_policy_bytes(&policy)[..], &(models.len() as u64).to_le_bytes()].concat();
     Answer { list: models.to_vec(), ..Answer::of(out) }.second()
 }

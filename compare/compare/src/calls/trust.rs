@@ -5,7 +5,7 @@ use crate::case::Ask;
 use crate::judges::Judge;
 use crate::second::bytes::policy_of;
 
-/// 22, 1, 2 as in `validate`; then 16, 17 and 10 to 15, which a judge tells.
+/// 22, 23, 1, 2 as in `validate`; then 16, 17 and 10 to 15, which a judge tells.
 pub const CALL: Call =
     Call { name: "trust", takes: &[Handed::Policy, Handed::Bank], many_passes: true, second, answer, ..PLAIN };
 

@@ -18,9 +18,9 @@ fn need(_: &Ask) -> usize {
     UTILITY_BYTES
 }
 
-/// 22, 1, 2, 4; then 7, where there is no utility. There is no checked form, so 3 isn't given.
+/// 22, 23, 1, 2, 4; then 7, where there is no utility. There is no checked form, so 3 isn't given.
 fn second(ask: &Ask) -> Passed {
-    refusals::field_lengths(ask.policy, ask.request)?;
+    refusals::policy_and_request(ask.policy, ask.request)?;
     refusals::bank(ask.bank)?;
     refusals::room(ask.room, UTILITY_BYTES)
 }

@@ -8,9 +8,9 @@ use crate::second::refusals::{self, Passed};
 pub const CALL: Call =
     Call { name: "validate", takes: &[Handed::Policy, Handed::Bank], many_passes: true, second, answer, ..PLAIN };
 
-/// 22, 1, 2; then 10 to 15, which a judge tells.
+/// 22, 23, 1, 2; then 10 to 15, which a judge tells.
 pub(super) fn second(ask: &Ask) -> Passed {
-    refusals::policy_length(ask.policy)?;
+    refusals::policy(ask.policy)?;
     refusals::bank(ask.bank)
 }
 

@@ -19,9 +19,9 @@ pub(super) fn need(_: &Ask) -> usize {
     BOUNDARIES_BYTES
 }
 
-/// 22, 1, 2, 4; then 5, where the id isn't listed.
+/// 22, 23, 1, 2, 4; then 5, where the id isn't listed.
 pub(super) fn second(ask: &Ask) -> Passed {
-    refusals::field_lengths(ask.policy, ask.request)?;
+    refusals::policy_and_request(ask.policy, ask.request)?;
     refusals::bank(ask.bank)?;
     refusals::room(ask.room, BOUNDARIES_BYTES)
 }

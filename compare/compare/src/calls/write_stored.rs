@@ -2,19 +2,19 @@
 use super::{Answer, Call, Handed, PLAIN};
 use crate::case::Ask;
 use crate::judges::Judge;
-use crate::second::forms::{storable, stored_form, STORED_BYTES};
+use crate::second::forms::{storable, stored_bytes, stored_form};
 use crate::second::refusals::{self, Passed};
 
 pub const CALL: Call =
     Call { name: "write_stored", takes: &[Handed::Policy, Handed::Bank, Handed::Out], need, second, answer, ..PLAIN };
 
 fn need(ask: &Ask) -> usize {
-    STORED_BYTES + ask.bank.len()
+    stored_bytes(ask.policy, ask.bank)
 }
 
-/// 22, 1, 2, 18, 4.
+/// 22, 23, 1, 2, 18, 4.
 fn second(ask: &Ask) -> Passed {
-    refusals::policy_length(ask.policy)?;
+    refusals::policy(ask.policy)?;
     refusals::bank(ask.bank)?;
     storable(ask.bank)?;
     refusals::room(ask.room, need(ask))

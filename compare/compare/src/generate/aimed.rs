@@ -1,9 +1,11 @@
 //! Settings with one field moved to a limit that decides something for one of their records: at the limit, or a step beside it.
-//! What a record costs and earns is asked of the Rust.
+//! What a record costs and earns is asked of the second reading, by the rules that the setting's policy names.
 use super::edges::{beside, change_model};
 use super::random::Random;
 use super::Setting;
-use oracle::kernel::{CandidateVerdict, KernelInput, UtilityTerms};
+use crate::second::deciding::{decide, explain, Question, Verdict};
+use crate::second::price::Terms;
+use oracle::kernel::KernelInput;
 
 pub fn change(r: &mut Random, setting: &mut Setting) {
     let Some(at) = setting.any_place(r) else {
@@ -24,11 +26,11 @@ pub fn change(r: &mut Random, setting: &mut Setting) {
 }
 
 /// The terms of one record, had the budget no limit: none where a gate or the request's own limits stop it.
-fn terms(setting: &Setting, at: usize) -> Option<UtilityTerms> {
+fn terms(setting: &Setting, at: usize) -> Option<Terms> {
     let request = KernelInput { budget_limit_microunits: u64::MAX, ..setting.request };
-    let alone = setting.policy.with(vec![setting.models[at]]);
-    match alone.explain(request).candidates.first()?.verdict {
-        CandidateVerdict::Eligible(terms) | CandidateVerdict::NonPositiveUtility(terms) => Some(terms),
+    let alone = Question { policy: setting.policy, request, models: vec![setting.models[at]] };
+    match explain(&alone).first()?.verdict {
+        Verdict::Eligible(terms) | Verdict::NonPositive(terms) => Some(terms),
         _ => None,
     }
 }
@@ -36,7 +38,7 @@ fn terms(setting: &Setting, at: usize) -> Option<UtilityTerms> {
 /// The budget at the record's exact cost, or one below or above.
 fn budget(r: &mut Random, setting: &mut Setting, at: usize) {
     if let Some(terms) = terms(setting, at) {
-        let cost = terms.cost_microunits;
+        let cost = terms.cost;
         setting.request.budget_limit_microunits = r.pick(&[cost, cost.saturating_sub(1), cost.saturating_add(1)]);
     }
 }
@@ -99,7 +101,7 @@ fn regions(r: &mut Random, setting: &mut Setting, at: usize) {
 
 /// The request asks for the very model that is chosen.
 fn requested(setting: &mut Setting) {
-    setting.request.requested_model_id = setting.snapshot().prescribe(setting.request).selected_model_id;
+    setting.request.requested_model_id = decide(&setting.question()).0.model_id;
 }
 
 /// A product beside 2^32, 2^48, 2^63 or 2^64, where code may go over to another way of computing. No answer may show it.

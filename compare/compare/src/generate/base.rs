@@ -3,6 +3,7 @@ use super::edges;
 use super::random::Random;
 use super::Setting;
 use crate::second::bytes::Policy;
+use crate::second::rules::Rounding;
 use oracle::kernel::{KernelInput, KernelModel, ALL_PROVIDERS};
 
 pub fn setting(r: &mut Random, records: usize) -> Setting {
@@ -77,6 +78,7 @@ fn policy(r: &mut Random, hard_risk: u16, confidence: u16, multiplier: u16, pena
         minimum_confidence_bps: confidence,
         risk_penalty_multiplier_bps: multiplier,
         latency_penalty_microunits_per_ms: penalty,
+        rounding: Rounding::Apart,
     }
 }
 

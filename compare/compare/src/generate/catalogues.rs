@@ -3,7 +3,7 @@ use super::court::{court, good};
 use super::large::MOST;
 use super::random::Random;
 use super::spaces::pairs;
-use super::{base, damage, edges, Setting, Visit};
+use super::{base, damage, edges, Draw, Setting, Visit};
 use crate::case::Case;
 use crate::second::bytes::RECORD_BYTES;
 use oracle::kernel::KernelModel;
@@ -202,10 +202,11 @@ pub fn turned(visit: Visit) {
 }
 
 /// A bank in any order with nothing to refuse; then a few faults, and now and then a wrong length.
-pub fn random(seed: u64, number: u64) -> Case {
-    let mut r = Random::for_case(seed.wrapping_add(0xca7a), number);
+pub fn random(draw: Draw) -> Case {
+    let mut r = draw.source(0xca7a);
     let records = if r.one_in(400) { 900 } else { r.pick(&[0, 1, 1, 2, 2, 2, 3, 3, 3, 5, 5, 8, 22]) };
     let mut setting = base::setting(&mut r, records);
+    draw.round(&mut setting);
     make_sound(&mut r, &mut setting);
     for _ in 0..r.pick(&[0, 0, 1, 1, 2, 2, 3]) {
         let at = r.place(records.max(1));
@@ -215,7 +216,7 @@ pub fn random(seed: u64, number: u64) -> Case {
             _ => r.pick(&FAULTS)(&mut setting, at),
         }
     }
-    let mut case = setting.case(1);
+    let mut case = draw.case(&setting, 1);
     damage(&mut r, &mut case);
     case
 }

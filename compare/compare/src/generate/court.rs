@@ -1,6 +1,7 @@
 //! A policy and a request against which each of the nine rejections has a record of its own: what the small spaces are built from.
 use super::Setting;
 use crate::second::bytes::Policy;
+use crate::second::rules::Rounding;
 use oracle::kernel::{KernelInput, KernelModel};
 
 /// A million input tokens and a penalty of 1 make prices and delays whole steps of the utility.
@@ -12,6 +13,7 @@ pub fn court() -> Setting {
         minimum_confidence_bps: 2_000,
         risk_penalty_multiplier_bps: 10_000,
         latency_penalty_microunits_per_ms: 1,
+        rounding: Rounding::Apart,
     };
     let request = KernelInput {
         request_sequence: 42,

@@ -2,6 +2,7 @@
 use super::random::Random;
 use super::Setting;
 use crate::second::bytes::Policy;
+use crate::second::rules::Rounding;
 use oracle::kernel::{KernelInput, KernelModel};
 
 const BPS: [u16; 15] =
@@ -222,6 +223,7 @@ pub fn anything(r: &mut Random, records: usize) -> Setting {
         minimum_confidence_bps: bps(r, &near),
         risk_penalty_multiplier_bps: bps(r, &near),
         latency_penalty_microunits_per_ms: amount(r),
+        rounding: Rounding::Apart,
     };
     let request = KernelInput {
         request_sequence: amount(r),

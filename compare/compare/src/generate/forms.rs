@@ -1,56 +1,88 @@
-//! Cases for the stored form, the request form and the programs' input: whole ones of every size, and damaged ones.
+//! Cases for the stored form, the request form and the programs' input: whole ones of every size, and damaged ones; of a policy that rounds
+//! apart, and of one that rounds once, whose forms have a field more.
 use super::court::{good, over, rejected};
 use super::example::example;
 use super::large::MOST;
 use super::lists::{self, mixed};
 use super::random::Random;
 use super::spaces::pairs;
-use super::{printed, random_case, room, small_size, Setting, Visit};
+use super::{printed, random_case, room, small_size, Draw, Policies, Setting, Visit};
 use crate::case::{Case, Formed, Room};
 use crate::form::Damage;
 use crate::second::bytes::{bank_bytes, policy_bytes, request_bytes, RECORD_BYTES};
+use crate::second::rules::Rounding;
 
-/// Fields of a form at most.
-const FIELDS: usize = 3;
 const HEADER: usize = 3;
-/// Where the fields of the example's forms begin.
-const STARTS: [usize; FIELDS] = [0, 33, 130];
 
-pub fn each(visit: Visit) {
-    cuts(visit);
-    headers(visit);
-    lengths(visit);
-    orders(visit);
-    tails(visit);
-    two_at_once(visit);
-    rooms(visit);
-    both_rooms(visit);
+/// The example with a policy that rounds so; where the fields of the programs' input begin, and where it ends.
+#[derive(Clone, Copy)]
+pub struct Example {
+    rounding: Rounding,
+    starts: &'static [usize],
+    end: usize,
 }
 
-/// The example, whose form is damaged so.
+const APART: Example = Example { rounding: Rounding::Apart, starts: &[0, 33, 130], end: 203 };
+pub const ONCE: Example = Example { rounding: Rounding::Once, starts: &[0, 33, 130, 134], end: 207 };
+
+pub fn each(visit: Visit) {
+    damages_of(APART, visit);
+    orders(visit);
+}
+
+pub fn each_once(visit: Visit) {
+    damages_of(ONCE, visit);
+    rounding_fields(visit);
+}
+
+fn damages_of(whole: Example, visit: Visit) {
+    cuts(whole, visit);
+    headers(whole, visit);
+    lengths(whole, visit);
+    tails(whole, visit);
+    two_at_once(whole, visit);
+    rooms(whole, visit);
+    both_rooms(whole, visit);
+}
+
+impl Example {
+    fn setting(self) -> Setting {
+        let mut setting = example();
+        setting.policy.rounding = self.rounding;
+        setting
+    }
+
+    /// The example, whose form is damaged so.
+    pub fn damaged(self, damages: &[Damage]) -> Case {
+        Case { formed: Formed::Made(damages.to_vec()), ..self.setting().case(1) }
+    }
+}
+
+/// The example of a policy that rounds apart, whose form is damaged so.
 pub fn damaged(damages: &[Damage]) -> Case {
-    Case { formed: Formed::Made(damages.to_vec()), ..example().case(1) }
+    APART.damaged(damages)
 }
 
 /// Every form cut everywhere, also with no record and with three.
-fn cuts(visit: Visit) {
+fn cuts(whole: Example, visit: Visit) {
     for records in [0, 1, 2, 3] {
-        let case = Setting { models: mixed(records, 0).models, ..example() }.case(1);
+        let case = Setting { models: mixed(records, 0).models, ..whole.setting() }.case(1);
         for keep in 0..=108 + (records + 1) * RECORD_BYTES {
             visit(Case { formed: Formed::Made(vec![Damage::Keep(keep)]), ..case.clone() });
         }
     }
 }
 
-/// Every byte of every header with every value; and every other byte changed, which no test looks at.
-fn headers(visit: Visit) {
-    for start in STARTS {
+/// Every byte of every header with every value; and every other byte changed, which no test looks at but that of the field that says how to
+/// round.
+fn headers(whole: Example, visit: Visit) {
+    for start in whole.starts {
         for (at, byte) in pairs(&[0, 1, 2], &(0..=u8::MAX).collect::<Vec<_>>()) {
-            visit(damaged(&[Damage::Byte(start + at, byte)]));
+            visit(whole.damaged(&[Damage::Byte(start + at, byte)]));
         }
     }
-    for (at, byte) in pairs(&(0..203).collect::<Vec<_>>(), &[0, 1, 255]) {
-        visit(damaged(&[Damage::Byte(at, byte)]));
+    for (at, byte) in pairs(&(0..whole.end).collect::<Vec<_>>(), &[0, 1, 255]) {
+        visit(whole.damaged(&[Damage::Byte(at, byte)]));
     }
 }
 
@@ -61,31 +93,64 @@ const LENGTHS: [u16; 24] = [
 ];
 
 /// Lengths that are off: the body stays as it is, or has as many bytes as they say.
-fn lengths(visit: Visit) {
-    for field in 0..FIELDS {
+fn lengths(whole: Example, visit: Visit) {
+    for field in 0..whole.starts.len() {
         for more in [-256, -94, -48, -47, -46, -2, -1, 1, 2, 46, 47, 48, 94, 256] {
-            visit(damaged(&[Damage::Length(field, more)]));
-            visit(damaged(&[Damage::Body(field, more)]));
+            visit(whole.damaged(&[Damage::Length(field, more)]));
+            visit(whole.damaged(&[Damage::Body(field, more)]));
         }
         for length in LENGTHS {
-            visit(damaged(&[Damage::Says(field, length)]));
-            visit(damaged(&[Damage::Says(field, length), Damage::Tail(200, 0)]));
+            visit(whole.damaged(&[Damage::Says(field, length)]));
+            visit(whole.damaged(&[Damage::Says(field, length), Damage::Tail(200, 0)]));
         }
     }
 }
 
-/// Up to four fields in every order, each the policy, the models, the request or one of a tag that there is not: missing, repeated and
-/// out of place.
+/// Up to four fields in every order, each the policy, the models, the request, the one that says how to round, or one of a tag that there is
+/// not: missing, repeated and out of place. And any of them before, between and after the four of a policy that rounds once.
 fn orders(visit: Visit) {
-    let parts = [policy(), models(), request(), vec![9, 0, 0]];
+    let parts = [policy(), models(), request(), rounding(), vec![9, 0, 0]];
+    let mut of = |fields: Vec<&Vec<u8>>| {
+        let form = fields.into_iter().flatten().copied().collect();
+        visit(Case { formed: Formed::Bytes(form), ..example().case(1) });
+    };
     for count in 0..=4 {
         for order in 0..parts.len().pow(count) {
-            let fields = (0..count).map(|at| &parts[order / parts.len().pow(at) % parts.len()]);
-            let form: Vec<u8> = fields.flatten().copied().collect();
-            visit(Case { formed: Formed::Bytes(form), ..example().case(1) });
+            of((0..count).map(|at| &parts[order / parts.len().pow(at) % parts.len()]).collect());
         }
     }
+    for (at, part) in pairs(&[0, 1, 2, 3, 4], &[0, 1, 2, 3, 4]) {
+        let mut fields = vec![&parts[0], &parts[1], &parts[3], &parts[2]];
+        fields.insert(at, &parts[part]);
+        of(fields);
+    }
 }
+
+/// After the models, and then with a request and without: every body of the field that says how to round; every length of it up to a few
+/// bytes, whole and cut; and every few bytes that may begin it.
+fn rounding_fields(visit: Visit) {
+    let stored = [policy(), models()].concat();
+    let mut both = |after: &[u8]| {
+        for request in [Vec::new(), request()] {
+            let form = [&stored[..], after, &request].concat();
+            visit(Case { formed: Formed::Bytes(form), ..example().case(1) });
+        }
+    };
+    (0..=u8::MAX).for_each(|body| both(&[4, 1, 0, body]));
+    for (length, there) in pairs(&[0, 1, 2, 3, 255, 256, 257], &[0, 1, 2, 3, 257]) {
+        for body in [0, 1] {
+            both(&[&[4][..], &(length as u16).to_le_bytes(), &vec![body; there]].concat());
+        }
+    }
+    for (first, (second, third)) in pairs(&FEW, &pairs(&FEW, &FEW)) {
+        both(&[first]);
+        both(&[first, second]);
+        both(&[first, second, third]);
+    }
+}
+
+/// Bytes with which a field may begin or go on.
+const FEW: [u8; 7] = [0, 1, 2, 3, 4, 5, 255];
 
 fn field(tag: u8, body: Vec<u8>) -> Vec<u8> {
     [vec![tag], (body.len() as u16).to_le_bytes().to_vec(), body].concat()
@@ -103,16 +168,21 @@ fn request() -> Vec<u8> {
     field(3, request_bytes(&example().request))
 }
 
+fn rounding() -> Vec<u8> {
+    field(4, vec![1])
+}
+
 /// Bytes after the end: few, a header, a whole field.
-fn tails(visit: Visit) {
-    for (more, byte) in pairs(&[1, 2, 3, 4, 33, 47, 73, 100_000], &[0, 1, 2, 3, 9, 255]) {
-        visit(damaged(&[Damage::Tail(more, byte)]));
+fn tails(whole: Example, visit: Visit) {
+    for (more, byte) in pairs(&[1, 2, 3, 4, 33, 47, 73, 100_000], &[0, 1, 2, 3, 4, 9, 255]) {
+        visit(whole.damaged(&[Damage::Tail(more, byte)]));
     }
-    (0..=u8::MAX).for_each(|tag| visit(damaged(&[Damage::Added(tag)])));
+    (0..=u8::MAX).for_each(|tag| visit(whole.damaged(&[Damage::Added(tag)])));
 }
 
 /// One of each kind, in each field.
-fn damages() -> Vec<Damage> {
+fn damages(whole: Example) -> Vec<Damage> {
+    let fields = whole.starts.len();
     let mut all = vec![
         Damage::Added(3),
         Damage::Keep(0),
@@ -122,8 +192,16 @@ fn damages() -> Vec<Damage> {
         Damage::ShortBy(71),
         Damage::Tail(1, 0),
         Damage::Tail(3, 2),
+        Damage::Tail(1, 4),
+        Damage::Rounding(1, 1),
+        Damage::Rounding(2, 1),
+        Damage::Rounding(2, 0),
+        Damage::Rounding(4, 1),
     ];
-    for field in 0..FIELDS {
+    if whole.rounding == Rounding::Once {
+        all.extend([Damage::Filled(2, 0), Damage::Filled(2, 2)]);
+    }
+    for field in 0..fields {
         all.extend([
             Damage::Tag(field, 0),
             Damage::Tag(field, 2),
@@ -135,26 +213,26 @@ fn damages() -> Vec<Damage> {
             Damage::Says(field, u16::MAX),
             Damage::Without(field),
             Damage::Twice(field),
-            Damage::Swapped(field, (field + 1) % FIELDS),
+            Damage::Swapped(field, (field + 1) % fields),
         ]);
     }
     all
 }
 
 /// Each two of them, of which the first that is met counts.
-fn two_at_once(visit: Visit) {
-    let damages = damages();
+fn two_at_once(whole: Example, visit: Visit) {
+    let damages = damages(whole);
     for (first, second) in pairs(&damages, &damages) {
-        visit(damaged(&[first, second]));
+        visit(whole.damaged(&[first, second]));
     }
 }
 
 /// Every room of the answer and of the bank, from none to a few bytes more than is needed; what was written has room to spare or lacks a
 /// byte.
-fn rooms(visit: Visit) {
+fn rooms(whole: Example, visit: Visit) {
     for records in [0, 1, 2] {
-        let case = Setting { models: mixed(records, 0).models, ..example() }.case(1);
-        for short in 0..=37 + records * RECORD_BYTES {
+        let case = Setting { models: mixed(records, 0).models, ..whole.setting() }.case(1);
+        for short in 0..=41 + records * RECORD_BYTES {
             visit(Case { room: Room::ShortBy(short), ..case.clone() });
             visit(Case { list_room: Room::ShortBy(short), ..case.clone() });
         }
@@ -165,18 +243,19 @@ fn rooms(visit: Visit) {
 }
 
 /// Each room with each other, and with a form that is refused: 4 is told last.
-fn both_rooms(visit: Visit) {
+fn both_rooms(whole: Example, visit: Visit) {
     let rooms = [Room::ShortBy(usize::MAX), Room::ShortBy(1), Room::Exact, Room::LongerBy(5)];
     for (room, list_room) in pairs(&rooms, &rooms) {
         for damage in [vec![], vec![Damage::ShortBy(1)], vec![Damage::Tail(1, 0)], vec![Damage::Length(0, 1)]] {
-            visit(Case { room, list_room, ..damaged(&damage) });
+            visit(Case { room, list_room, ..whole.damaged(&damage) });
         }
-        let mut case = Case { room, list_room, ..example().case(1) };
-        case.policy.pop();
+        let mut case = Case { room, list_room, ..whole.setting().case(1) };
+        let policy = case.policy.clone();
+        case.policy.truncate(29);
         case.bank.pop();
         case.request.push(0);
         visit(case.clone());
-        case.policy.push(0);
+        case.policy = policy;
         visit(case.clone());
         case.request.pop();
         visit(case);
@@ -185,9 +264,19 @@ fn both_rooms(visit: Visit) {
 
 /// As many models as the program takes, as can be stored, as a bank may have, and one more; with too little room, and damaged at the end.
 pub fn sizes(visit: Visit) {
-    for records in [0, 1, 2, 22, 900, 901, 1_393, 1_394, 1_395, MOST, MOST + 1] {
+    sizes_of(APART, &[0, 1, 2, 22, 900, 901, 1_393, 1_394, 1_395, MOST, MOST + 1], visit);
+}
+
+pub fn sizes_once(visit: Visit) {
+    sizes_of(ONCE, &[0, 1, 2, 22, 900, 901, 1_393, 1_394, 1_395], visit);
+}
+
+fn sizes_of(whole: Example, sizes: &[usize], visit: Visit) {
+    for records in sizes.iter().copied() {
         let models = (0..records).map(|at| if at % 3 == 0 { good() } else { rejected(at % 9) }).collect();
-        let case = over(models).case(2);
+        let mut setting = over(models);
+        setting.policy.rounding = whole.rounding;
+        let case = setting.case(2);
         for room in [Room::Exact, Room::ShortBy(1), Room::LongerBy(7)] {
             visit(Case { room, list_room: room, ..case.clone() });
         }
@@ -201,13 +290,13 @@ pub fn sizes(visit: Visit) {
 }
 
 /// A case that often passes, with its form whole or damaged once or more.
-pub fn random(seed: u64, number: u64) -> Case {
-    let mut r = Random::for_case(seed.wrapping_add(0xf024), number);
+pub fn random(draw: Draw) -> Case {
+    let mut r = draw.source(0xf024);
     let mut case = match r.below(3) {
-        0 => random_case(seed.wrapping_add(0xf025), number, small_size),
-        _ => printed::random(seed.wrapping_add(0xf026), number),
+        0 => random_case(draw.beside(0xf025), small_size),
+        _ => printed::random(draw.beside(0xf026)),
     };
-    let damages = (0..r.pick(&[0, 1, 1, 1, 2, 2, 3])).map(|_| damage(&mut r)).collect();
+    let damages = (0..r.pick(&[0, 1, 1, 1, 2, 2, 3])).map(|_| damage(draw.policies, &mut r)).collect();
     case.formed = Formed::Made(damages);
     case.room = room(&mut r);
     case.list_room = lists::room(&mut r);
@@ -215,23 +304,30 @@ pub fn random(seed: u64, number: u64) -> Case {
 }
 
 /// Any damage, near the places where a form of few records has something.
-fn damage(r: &mut Random) -> Damage {
-    let (field, byte) = (r.place(FIELDS), r.draw() as u8);
+fn damage(policies: Policies, r: &mut Random) -> Damage {
+    // Where every policy rounds apart, there is no field that says otherwise, and no damage of one.
+    let (starts, kinds) = match policies {
+        Policies::Apart => (APART.starts, 12),
+        Policies::Both => (ONCE.starts, 15),
+    };
+    let (field, byte) = (r.place(starts.len()), r.draw() as u8);
     let tag = r.pick(&[0, 1, 2, 3, 4, 9, 255]);
     let more = r.pick(&[-94, -48, -47, -46, -3, -2, -1, 1, 2, 3, 46, 47, 48, 256]);
     let length = r.draw() as u16;
-    match r.below(12) {
+    match r.below(kinds) {
         0 => Damage::Tag(field, tag),
         1 => Damage::Length(field, more),
         2 => Damage::Says(field, length),
         3 => Damage::Body(field, more),
         4 => Damage::Without(field),
         5 => Damage::Twice(field),
-        6 => Damage::Swapped(field, r.place(FIELDS)),
+        6 => Damage::Swapped(field, r.place(starts.len())),
         7 => Damage::Added(tag),
         8 => Damage::Keep(r.place(300)),
         9 => Damage::ShortBy(1 + r.place(120)),
-        10 => Damage::Byte(STARTS[field] + r.place(HEADER), byte),
-        _ => Damage::Tail(1 + r.place(80), tag),
+        10 => Damage::Byte(starts[field] + r.place(HEADER), byte),
+        11 => Damage::Tail(1 + r.place(80), tag),
+        12 => Damage::Filled(2, r.pick(&[0, 1, 2, 255])),
+        _ => Damage::Rounding(r.pick(&[0, 1, 2, 2, 2, 3, 4]), r.pick(&[1, 1, 1, 0, 2, 255])),
     }
 }

@@ -3,7 +3,7 @@ use super::court::{good, over, rejected, REASONS};
 use super::large::MOST;
 use super::random::Random;
 use super::spaces::pairs;
-use super::{random_case, small_size, Setting, Visit};
+use super::{random_case, small_size, Draw, Setting, Visit};
 use crate::case::{Case, Listed, Room};
 use crate::second::bytes::RECORD_BYTES;
 use crate::second::explanation::EXPLANATION_BYTES;
@@ -168,9 +168,9 @@ pub fn place(r: &mut Random, records: u64) -> u64 {
 }
 
 /// A small case with its own explanation, or with bytes for a list: verdicts of any kind, and the rest anything.
-pub fn random(seed: u64, number: u64) -> Case {
-    let mut case = random_case(seed.wrapping_add(0x11575), number, small_size);
-    let mut r = Random::for_case(seed.wrapping_add(0x11576), number);
+pub fn random(draw: Draw) -> Case {
+    let mut case = random_case(draw.beside(0x11575), small_size);
+    let mut r = draw.source(0x11576);
     if r.one_in(3) {
         return case;
     }

@@ -1,7 +1,7 @@
 //! The inputs: small spaces in full (`spaces`), then random ones, each a plausible setting (`base`) with a few fields moved to an
 //! edge of their range (`edges`) or to a limit that decides something (`aimed`). Explanations, catalogues, searches, forms, what is
 //! printed and the reading of a record have spaces and random cases of their own (`lists`, `catalogues`, `searches`, `forms`, `printed`,
-//! `places`).
+//! `places`); so have policies that round once (`roundings`), which stand among the random cases of every set.
 pub mod aimed;
 pub mod base;
 pub mod catalogues;
@@ -14,6 +14,7 @@ pub mod lists;
 pub mod places;
 pub mod printed;
 pub mod random;
+pub mod roundings;
 pub mod searches;
 pub mod spaces;
 
@@ -23,7 +24,7 @@ use crate::calls::{
 use crate::calls::{UNIT, UTILITY, VALIDATE, WIN, WORDS, WRITE_REQUEST, WRITE_STORED};
 use crate::case::{Case, Formed, Listed, Room};
 use crate::second::bytes::{bank_bytes, policy_bytes, request_bytes, Policy, RECORD_BYTES};
-use crate::second::rules::Rules;
+use crate::second::deciding::{explain, Question, Verdict};
 use oracle::kernel::{KernelInput, KernelModel, PolicySnapshot};
 use random::Random;
 
@@ -50,11 +51,59 @@ pub struct Draws {
     pub name: &'static str,
     pub asked: Asked,
     pub share: u64,
-    pub case: fn(u64, u64) -> Case,
+    pub case: fn(Draw) -> Case,
+}
+
+/// What a random case is drawn by: it depends on nothing else.
+#[derive(Clone, Copy)]
+pub struct Draw {
+    pub seed: u64,
+    pub number: u64,
+    pub policies: Policies,
+}
+
+/// How the policies round that are drawn.
+#[derive(Clone, Copy, PartialEq, Eq)]
+pub enum Policies {
+    Apart,
+    /// Apart or once, and tokens and prices moved to where that shows.
+    Both,
+}
+
+impl Draw {
+    pub fn of(seed: u64, number: u64) -> Self {
+        Draw { seed, number, policies: Policies::Both }
+    }
+
+    /// Other cases than these, so that none is asked twice.
+    fn beside(self, salt: u64) -> Self {
+        Draw { seed: self.seed.wrapping_add(salt), ..self }
+    }
+
+    fn source(self, salt: u64) -> Random {
+        Random::for_case(self.seed.wrapping_add(salt), self.number)
+    }
+
+    /// Has the setting's policy round either way. It draws from a source of its own.
+    fn round(self, setting: &mut Setting) {
+        if self.policies == Policies::Both {
+            roundings::round(&mut self.source(0x4024d), setting);
+        }
+    }
+
+    /// The setting as a case, its policy lent in as many bytes as say it, or in more.
+    fn case(self, setting: &Setting, id: u32) -> Case {
+        let mut case = setting.case(id);
+        if self.policies == Policies::Both {
+            roundings::lend(&mut self.source(0x4024e), &mut case.policy);
+        }
+        case
+    }
 }
 
 /// The calls of one pass at most, which are asked most often.
 const DECISIONS: Asked = Asked::These(&[PRESCRIBE, CHECKED, UTILITY, FIND, CHECK, EXPLAIN, NEXT, RECORD]);
+const COSTS: Asked = Asked::These(&[PRESCRIBE, CHECKED, UTILITY, EXPLAIN, NEXT]);
 const LISTS: Asked = Asked::These(&[EXPLAIN, NEXT]);
 const CATALOGUES: Asked = Asked::These(&[VALIDATE, TRUST]);
 const SEARCHES: Asked = Asked::These(&[WIN, MARGIN]);
@@ -69,7 +118,7 @@ const fn long(name: &'static str, asked: Asked, each: fn(Visit)) -> Space {
     Space { name, asked, long: true, each }
 }
 
-pub const SPACES: [Space; 14] = [
+pub const SPACES: [Space; 22] = [
     space("decisions", Asked::Every, spaces::each),
     space("banks of every size", Asked::Every, large::each),
     space("lists", LISTS, lists::each),
@@ -80,10 +129,18 @@ pub const SPACES: [Space; 14] = [
     space("forms", FORMS, forms::each),
     space("forms of every size", FORMS, forms::sizes),
     space("printed", PRINTED, printed::each),
+    space("roundings", COSTS, roundings::each),
+    space("policies that say how to round", Asked::Every, roundings::policies),
+    space("searches, rounding once", SEARCHES, roundings::searches),
+    space("forms, rounding once", FORMS, forms::each_once),
+    space("printed, rounding once", PRINTED, roundings::printed),
     long("searches printed", PRINTED, searches::each),
     long("a falling catalogue", Asked::These(&[VALIDATE]), catalogues::falling),
     long("turned catalogues", Asked::These(&[TRUST]), catalogues::turned),
     long("searches over large banks", SEARCHES, searches::largest),
+    long("decisions, rounding once", DECISIONS, roundings::decisions),
+    long("banks of every size, rounding once", Asked::Every, roundings::large),
+    long("forms of every size, rounding once", FORMS, forms::sizes_once),
 ];
 
 pub const DRAWS: [Draws; 7] = [
@@ -122,10 +179,13 @@ impl Setting {
         self.policy.with(self.models.clone())
     }
 
+    pub fn question(&self) -> Question {
+        Question { policy: self.policy, request: self.request, models: self.models.clone() }
+    }
+
     /// The setting's bytes, with a buffer that just fits.
     pub fn case(&self, id: u32) -> Case {
         Case {
-            rules: Rules::TODAY,
             policy: policy_bytes(&self.policy),
             request: request_bytes(&self.request),
             bank: bank_bytes(&self.models),
@@ -144,12 +204,12 @@ impl Setting {
     }
 }
 
-/// The random case of this number. It depends on nothing but its arguments.
-pub fn random_case(seed: u64, number: u64, size: fn(&mut Random) -> usize) -> Case {
-    let mut r = Random::for_case(seed, number);
+/// The random case of a draw.
+pub fn random_case(draw: Draw, size: fn(&mut Random) -> usize) -> Case {
+    let mut r = draw.source(0);
     let records = size(&mut r);
-    let setting = random_setting(&mut r, records);
-    let mut case = setting.case(id_to_ask_for(&mut r, &setting));
+    let setting = random_setting(draw, &mut r, records);
+    let mut case = draw.case(&setting, id_to_ask_for(&mut r, &setting));
     case.room = room(&mut r);
     damage(&mut r, &mut case);
     case.list_room = lists::room(&mut r);
@@ -157,17 +217,17 @@ pub fn random_case(seed: u64, number: u64, size: fn(&mut Random) -> usize) -> Ca
     case
 }
 
-fn any_case(seed: u64, number: u64) -> Case {
-    random_case(seed, number, any_size)
+fn any_case(draw: Draw) -> Case {
+    random_case(draw, any_size)
 }
 
-/// Other cases than those of the decisions, so that none is asked twice.
-fn of_every_call(seed: u64, number: u64) -> Case {
-    random_case(seed.wrapping_add(0xe4e27), number, any_size)
+fn of_every_call(draw: Draw) -> Case {
+    random_case(draw.beside(0xe4e27), any_size)
 }
 
-pub fn random_setting(r: &mut Random, records: usize) -> Setting {
+fn random_setting(draw: Draw, r: &mut Random, records: usize) -> Setting {
     let mut setting = base::setting(r, records);
+    draw.round(&mut setting);
     for _ in 0..r.pick(&[0, 1, 1, 1, 2, 2, 3]) {
         if r.one_in(3) {
             edges::change(r, &mut setting);
@@ -184,8 +244,9 @@ fn id_to_ask_for(r: &mut Random, setting: &Setting) -> u32 {
     if r.one_in(2) {
         return any;
     }
-    let explanation = setting.snapshot().explain(setting.request);
-    let eligible: Vec<u32> = explanation.eligible().map(|candidate| candidate.model_id).collect();
+    let explained = explain(&setting.question());
+    let eligible: Vec<u32> =
+        explained.iter().filter(|it| matches!(it.verdict, Verdict::Eligible(_))).map(|it| it.id).collect();
     eligible.get(r.place(eligible.len().max(1))).copied().unwrap_or(any)
 }
 

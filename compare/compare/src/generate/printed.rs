@@ -6,7 +6,7 @@ use super::lists::mixed;
 use super::random::Random;
 use super::searches::{contest, id_to_ask_for, twist};
 use super::spaces::{pairs, request_limits, tied_case};
-use super::{aimed, base, edges, room, Setting, Visit};
+use super::{aimed, base, edges, room, Draw, Setting, Visit};
 use crate::case::{Case, Formed, Room};
 use crate::form::Damage;
 use oracle::kernel::KernelInput;
@@ -129,10 +129,10 @@ fn sizes(visit: Visit) {
 }
 
 /// A setting that passes the program's tests, but for what is moved then; of a contest or of any other kind.
-pub fn random(seed: u64, number: u64) -> Case {
-    let mut r = Random::for_case(seed.wrapping_add(0x9214), number);
+pub fn random(draw: Draw) -> Case {
+    let mut r = draw.source(0x9214);
     let records = if r.one_in(500) { r.pick(&[900, 901]) } else { r.pick(&[1, 1, 2, 2, 2, 3, 3, 4, 5, 8, 22]) };
-    let mut setting = passing(&mut r, records);
+    let mut setting = passing(draw, &mut r, records);
     for _ in 0..r.pick(&[0, 0, 0, 1, 1, 2]) {
         // A fault may have left no model.
         let Some(at) = setting.any_place(&mut r) else {
@@ -145,18 +145,20 @@ pub fn random(seed: u64, number: u64) -> Case {
             _ => twist(&mut r, &mut setting, at),
         }
     }
-    let mut case = setting.case(id_to_ask_for(&mut r, &setting));
+    let mut case = draw.case(&setting, id_to_ask_for(&mut r, &setting));
     if r.one_in(6) {
         case.room = room(&mut r);
     }
     case
 }
 
-fn passing(r: &mut Random, records: usize) -> Setting {
-    if !r.one_in(3) {
-        return contest(r, records);
+fn passing(draw: Draw, r: &mut Random, records: usize) -> Setting {
+    let contested = !r.one_in(3);
+    let mut setting = if contested { contest(r, records) } else { base::setting(r, records) };
+    draw.round(&mut setting);
+    if contested {
+        return setting;
     }
-    let mut setting = base::setting(r, records);
     make_sound(r, &mut setting);
     let (request, models) = (&mut setting.request, &mut setting.models);
     request.risk_bps %= 10_001;

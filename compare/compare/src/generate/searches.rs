@@ -4,8 +4,9 @@ use super::example::{example, example_models};
 use super::large::MOST;
 use super::random::Random;
 use super::spaces::{around, pairs};
-use super::{aimed, base, damage, edges, room, Setting, Visit};
+use super::{aimed, base, damage, edges, room, Draw, Setting, Visit};
 use crate::case::Case;
+use crate::second::deciding::decide;
 use oracle::kernel::{KernelModel, ALL_PROVIDERS};
 
 pub fn each(visit: Visit) {
@@ -212,7 +213,7 @@ fn contender(r: &mut Random, at: usize) -> KernelModel {
 
 /// Mostly a listed id that isn't the chosen one: the others need no search.
 pub fn id_to_ask_for(r: &mut Random, setting: &Setting) -> u32 {
-    let chosen = setting.snapshot().prescribe(setting.request).selected_model_id;
+    let chosen = decide(&setting.question()).0.model_id;
     let others: Vec<u32> = setting.models.iter().map(|model| model.model_id).filter(|id| *id != chosen).collect();
     match others.is_empty() || r.one_in(8) {
         true => edges::id(r, &setting.models),
@@ -221,10 +222,11 @@ pub fn id_to_ask_for(r: &mut Random, setting: &Setting) -> u32 {
 }
 
 /// A contest, or now and then any other setting, with a few numbers moved.
-pub fn random(seed: u64, number: u64) -> Case {
-    let mut r = Random::for_case(seed.wrapping_add(0x5ea2c4), number);
+pub fn random(draw: Draw) -> Case {
+    let mut r = draw.source(0x5ea2c4);
     let records = r.pick(&[1, 2, 2, 2, 3, 3, 3, 4, 5, 6, 8, 22]);
     let mut setting = if r.one_in(5) { base::setting(&mut r, records) } else { contest(&mut r, records) };
+    draw.round(&mut setting);
     for _ in 0..r.pick(&[0, 0, 1, 1, 2, 3]) {
         let at = r.place(records);
         match r.below(4) {
@@ -233,7 +235,7 @@ pub fn random(seed: u64, number: u64) -> Case {
             _ => twist(&mut r, &mut setting, at),
         }
     }
-    let mut case = setting.case(id_to_ask_for(&mut r, &setting));
+    let mut case = draw.case(&setting, id_to_ask_for(&mut r, &setting));
     if r.one_in(8) {
         case.room = room(&mut r);
         damage(&mut r, &mut case);

@@ -192,7 +192,7 @@ fn repeats(visit: Visit) {
 }
 
 /// Tokens and prices at their edges, where each part is rounded up and the sum is held; a budget at the limit and one below.
-fn costs(visit: Visit) {
+pub fn costs(visit: Visit) {
     let tokens = [0, 1, 999_999, 1_000_000, 1_000_001, u32::MAX];
     let prices = [0, 1, (1 << 32) - 1, (1 << 32) + 1, (1 << 63) - 1, u64::MAX];
     for (input_tokens, output_tokens) in pairs(&tokens, &tokens) {
@@ -213,7 +213,7 @@ fn costs(visit: Visit) {
 }
 
 /// The largest quality term that there is, so that no cost makes the record lose.
-fn richest(model: KernelModel) -> Setting {
+pub fn richest(model: KernelModel) -> Setting {
     let mut setting = over(vec![KernelModel { quality_bps: u16::MAX, risk_ceiling_bps: u16::MAX, ..model }]);
     setting.policy.hard_risk_limit_bps = u16::MAX;
     setting.policy.minimum_confidence_bps = 0;

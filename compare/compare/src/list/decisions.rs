@@ -5,7 +5,7 @@ use crate::case::{Case, Room};
 use crate::generate::court::{good, rejected, REASONS};
 use crate::generate::example::{example, rows, with_request};
 use crate::generate::spaces::{counted, gate_case, rank_case, request_limits, tied_case, ties, STEPS};
-use crate::generate::{random_case, small_size};
+use crate::generate::{random_case, small_size, Draw, Policies};
 use crate::second::refusals::{Refusal, NO_UTILITY};
 
 pub fn entries(list: &mut Vec<Entry>) {
@@ -109,7 +109,8 @@ fn limits(list: &mut Vec<Entry>) {
 /// The first so many random cases whose policy and request have their lengths. Of those without a utility
 /// to tell every third is kept, since most ids have none.
 fn random(list: &mut Vec<Entry>, call: usize, number: usize) {
-    let cases = (0..).map(|at| (at, random_case(SEED + call as u64, at, small_size)));
+    let draw = |number: u64| Draw { seed: SEED + call as u64, number, policies: Policies::Apart };
+    let cases = (0..).map(|at| (at, random_case(draw(at), small_size)));
     let kept = cases
         .filter(|(_, case)| whole(case))
         .map(|(at, case)| (at, Case { room: Room::Exact, ..case }))

@@ -19,11 +19,13 @@ mod decisions;
 mod forms;
 mod lists;
 mod printed;
+mod roundings;
 mod searches;
 
 use crate::calls::next_eligible::list_to_read;
 use crate::calls::{Answer, By, Handed, CALLS, TRUST};
 use crate::case::{Ask, Case, Room};
+use crate::generate::{Draw, Policies};
 use crate::second::bytes::{POLICY_BYTES, RECORD_BYTES, REQUEST_BYTES};
 
 /// The seed of the list's random cases. Another one makes another list.
@@ -43,6 +45,7 @@ pub fn entries() -> Vec<Entry> {
     searches::entries(&mut list);
     forms::entries(&mut list);
     printed::entries(&mut list);
+    roundings::entries(&mut list);
     list
 }
 
@@ -53,11 +56,13 @@ fn add(list: &mut Vec<Entry>, call: usize, case: Case) {
 /// The bytes of the largest bank of a random entry, and of the largest space and buffer that the program which replays the list has.
 const MOST_BANK: usize = 8 * RECORD_BYTES + 1;
 pub const MOST_ROOM: usize = 1_024;
+/// The bytes of the longest list that it reads.
+pub const MOST_BYTES: usize = 409_600;
 
 /// What fills a space and a buffer before the call.
 const FILL: u8 = 165;
 
-/// Whether the policy and the request have their lengths; cases that have not are refused alike, and are few in the list.
+/// Whether a policy that rounds apart and the request have their lengths; cases that have not are refused alike, and are few in the list.
 fn whole(case: &Case) -> bool {
     case.policy.len() == POLICY_BYTES && case.request.len() == REQUEST_BYTES
 }
@@ -68,8 +73,9 @@ fn fits(call: usize, case: &Case) -> bool {
 }
 
 /// The first so many random cases that fit an entry.
-fn random(list: &mut Vec<Entry>, call: usize, number: usize, draw: fn(u64, u64) -> Case) {
-    let cases = (0..).map(|at| draw(SEED + call as u64, at)).filter(|case| whole(case) && fits(call, case));
+fn random(list: &mut Vec<Entry>, call: usize, number: usize, case: fn(Draw) -> Case) {
+    let draw = |number: u64| Draw { seed: SEED + call as u64, number, policies: Policies::Apart };
+    let cases = (0..).map(|at| case(draw(at))).filter(|case| whole(case) && fits(call, case));
     cases.take(number).for_each(|case| add(list, call, Case { room: Room::Exact, ..case }));
 }
 
@@ -224,7 +230,7 @@ mod tests {
     #[test]
     fn the_list_is_the_same_each_time_and_small() {
         assert_eq!(written(), written());
-        assert!(written().len() < 360_000);
+        assert!(written().len() <= MOST_BYTES);
         for Entry { call, case } in entries() {
             let ask = CALLS[call].ask(&case);
             assert!(ask.list_room <= MOST_ROOM || !CALLS[call].takes.contains(&Handed::List));

@@ -1,8 +1,12 @@
 //! Document 01's bytes: little-endian, signed numbers in two's complement, no gaps, fields in the order in which they stand below.
 use super::deciding::{Counts, Decision};
+use super::rules::{Rounding, Rules};
 use oracle::kernel::{KernelInput, KernelModel};
 
+/// A policy's six numbers.
 pub const POLICY_BYTES: usize = 30;
+/// The same with a byte after them that says how it rounds.
+pub const LONG_POLICY_BYTES: usize = 31;
 pub const REQUEST_BYTES: usize = 70;
 pub const RECORD_BYTES: usize = 47;
 pub const DECISION_BYTES: usize = 65;
@@ -14,7 +18,7 @@ pub const OFFSET_BYTES: usize = 8;
 /// The place of an id that is nowhere.
 pub const NOWHERE: u16 = u16::MAX;
 
-/// The policy's six numbers, the body of tag 1. Its models stand beside it, in the bank.
+/// The policy's six numbers, the body of tag 1, and how it rounds. Its models stand beside it, in the bank.
 #[derive(Clone, Copy, Debug, PartialEq, Eq)]
 pub struct Policy {
     pub policy_epoch: u64,
@@ -23,6 +27,14 @@ pub struct Policy {
     pub minimum_confidence_bps: u16,
     pub risk_penalty_multiplier_bps: u16,
     pub latency_penalty_microunits_per_ms: u64,
+    pub rounding: Rounding,
+}
+
+impl Policy {
+    /// The same policy, were these the rules that it names.
+    pub fn by(self, rules: Rules) -> Self {
+        Policy { rounding: rules.rounding, ..self }
+    }
 }
 
 /// What is left to read. A field is read off the front.
@@ -51,9 +63,20 @@ impl Fields<'_> {
     }
 }
 
+/// The rounding of a number, where it has one.
+pub fn rounding_of(number: u8) -> Option<Rounding> {
+    [Rounding::Apart, Rounding::Once].into_iter().find(|rounding| *rounding as u8 == number)
+}
+
+/// 30 bytes are a policy that rounds apart; of 31 the last says how it rounds.
 pub fn policy_of(bytes: &[u8]) -> Policy {
-    assert_eq!(bytes.len(), POLICY_BYTES);
-    let mut f = Fields(bytes);
+    let (numbers, rounding) = bytes.split_at(POLICY_BYTES);
+    let rounding = match rounding {
+        [] => Some(Rounding::Apart),
+        [number] => rounding_of(*number),
+        _ => None,
+    };
+    let mut f = Fields(numbers);
     Policy {
         policy_epoch: f.u64(),
         catalog_epoch: f.u64(),
@@ -61,10 +84,21 @@ pub fn policy_of(bytes: &[u8]) -> Policy {
         minimum_confidence_bps: f.u16(),
         risk_penalty_multiplier_bps: f.u16(),
         latency_penalty_microunits_per_ms: f.u64(),
+        rounding: rounding.expect("refused where there is none"),
     }
 }
 
+/// As few bytes as say the policy: 30 where it rounds apart.
 pub fn policy_bytes(p: &Policy) -> Vec<u8> {
+    let mut bytes = long_policy_bytes(p);
+    if p.rounding == Rounding::Apart {
+        bytes.pop();
+    }
+    bytes
+}
+
+/// The 31 bytes in which a policy is handed back.
+pub fn long_policy_bytes(p: &Policy) -> Vec<u8> {
     [
         &p.policy_epoch.to_le_bytes()[..],
         &p.catalog_epoch.to_le_bytes(),
@@ -72,6 +106,7 @@ pub fn policy_bytes(p: &Policy) -> Vec<u8> {
         &p.minimum_confidence_bps.to_le_bytes(),
         &p.risk_penalty_multiplier_bps.to_le_bytes(),
         &p.latency_penalty_microunits_per_ms.to_le_bytes(),
+        &[p.rounding as u8],
     ]
     .concat()
 }
@@ -218,8 +253,20 @@ mod tests {
     }
 
     #[test]
+    fn a_policy_of_30_bytes_rounds_apart_and_of_31_as_it_says() {
+        let rounding = |bytes: &[u8]| policy_of(bytes).rounding;
+        assert_eq!(rounding(&offsets(30)), Rounding::Apart);
+        let said = [0, 1].map(|number| rounding(&[offsets(30), vec![number]].concat()));
+        assert_eq!(said, [Rounding::Apart, Rounding::Once]);
+        assert_eq!([2, 255].map(rounding_of), [None, None]);
+    }
+
+    #[test]
     fn what_was_read_is_written_as_the_same_bytes() {
         assert_eq!(policy_bytes(&policy_of(&offsets(30))), offsets(30));
+        let long = |rounding: u8| [offsets(30), vec![rounding]].concat();
+        assert_eq!([0, 1].map(|number| long_policy_bytes(&policy_of(&long(number)))), [long(0), long(1)]);
+        assert_eq!([0, 1].map(|number| policy_bytes(&policy_of(&long(number)))), [offsets(30), long(1)]);
         assert_eq!(request_bytes(&request_of(&offsets(70))), offsets(70));
         assert_eq!(bank_bytes(&models_of(&offsets(94))), offsets(94));
     }

@@ -3,14 +3,12 @@
 use super::bytes::Policy;
 use super::gates::{first_failed, Failed};
 use super::price::{cost, terms, Terms};
-use super::rules::Rules;
 use oracle::kernel::{KernelInput, KernelModel};
 use std::cmp::Reverse;
 
-/// A request over a catalogue, and the rules that hold for it.
+/// A request over a catalogue under a policy, which says by what rules.
 #[derive(Clone, Debug)]
 pub struct Question {
-    pub rules: Rules,
     pub policy: Policy,
     pub request: KernelInput,
     pub models: Vec<KernelModel>,
@@ -115,7 +113,7 @@ fn verdict(q: &Question, model: &KernelModel) -> Verdict {
     if let Some(failed) = first_failed(model, &q.request) {
         return Verdict::Rejected(failed);
     }
-    let (cost, budget) = (cost(q.rules.rounding, model, &q.request), q.request.budget_limit_microunits);
+    let (cost, budget) = (cost(q.policy.rounding, model, &q.request), q.request.budget_limit_microunits);
     if cost > budget {
         return Verdict::OverBudget { cost, budget };
     }

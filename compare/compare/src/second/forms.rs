@@ -1,18 +1,21 @@
-//! Document 01's stored form and request form, and the input of its program: fields of a one-byte tag, a two-byte length and a body.
+//! Document 01's stored form and request form, and the input of its program: fields of a one-byte tag, a two-byte length and a body; and the
+//! field by which document 02 lets a policy say that it rounds once.
 use super::bytes::{policy_of, request_of};
-use super::bytes::{Policy, POLICY_BYTES, RECORD_BYTES, REQUEST_BYTES};
-use super::refusals::{Refusal, FIELD_LENGTH};
+use super::bytes::{Policy, LONG_POLICY_BYTES, POLICY_BYTES, RECORD_BYTES, REQUEST_BYTES};
+use super::refusals::{self, Refusal, FIELD_LENGTH};
+use super::rules::{Rounding, Rules};
 use oracle::kernel::KernelInput;
 
 /// The tags.
 pub const POLICY: u8 = 1;
 pub const MODELS: u8 = 2;
 pub const REQUEST: u8 = 3;
+pub const ROUNDING: u8 = 4;
 
-/// The fields of each form, in their order.
-pub const STORED_FORM: &[u8] = &[POLICY, MODELS];
+/// The fields of each form, in their order. The one that says how the policy rounds is there where it rounds once.
+pub const STORED_FORM: &[u8] = &[POLICY, MODELS, ROUNDING];
 pub const REQUEST_FORM: &[u8] = &[REQUEST];
-pub const PROGRAM_INPUT: &[u8] = &[POLICY, MODELS, REQUEST];
+pub const PROGRAM_INPUT: &[u8] = &[POLICY, MODELS, ROUNDING, REQUEST];
 
 pub const TOO_MANY_TO_STORE: u8 = 18;
 pub const CUT: u8 = 20;
@@ -22,11 +25,12 @@ pub const WRONG_TAG: u8 = 21;
 pub const MOST_STORED: usize = 1_394;
 
 const HEADER: usize = 3;
-/// The bytes of a stored form beside its models, and of a request form.
-pub const STORED_BYTES: usize = 2 * HEADER + POLICY_BYTES;
+/// The bytes of a stored form beside its models and the field of a policy that rounds once, of that field, and of a request form.
+const STORED_BYTES: usize = 2 * HEADER + POLICY_BYTES;
+const ROUNDING_FIELD_BYTES: usize = HEADER + 1;
 pub const REQUEST_FORM_BYTES: usize = HEADER + REQUEST_BYTES;
 /// What reading a stored form answers beside the models: the policy, and how many bytes of models there are.
-pub const READ_BYTES: usize = POLICY_BYTES + 8;
+pub const READ_BYTES: usize = LONG_POLICY_BYTES + 8;
 
 fn put_field(out: &mut Vec<u8>, tag: u8, body: &[u8]) {
     out.push(tag);
@@ -34,10 +38,24 @@ fn put_field(out: &mut Vec<u8>, tag: u8, body: &[u8]) {
     out.extend(body);
 }
 
+/// Whether the bytes of a policy, which may have any length, say that it rounds once.
+fn rounds_once(policy: &[u8]) -> bool {
+    policy.len() == LONG_POLICY_BYTES && policy[POLICY_BYTES] == Rounding::Once as u8
+}
+
+/// How many bytes the stored form of a policy with its bank has.
+pub fn stored_bytes(policy: &[u8], bank: &[u8]) -> usize {
+    STORED_BYTES + bank.len() + if rounds_once(policy) { ROUNDING_FIELD_BYTES } else { 0 }
+}
+
+/// A policy that rounds apart has no field that says so: each policy has one form.
 pub fn stored_form(policy: &[u8], bank: &[u8]) -> Vec<u8> {
     let mut out = Vec::new();
-    put_field(&mut out, POLICY, policy);
+    put_field(&mut out, POLICY, &policy[..POLICY_BYTES]);
     put_field(&mut out, MODELS, bank);
+    if rounds_once(policy) {
+        put_field(&mut out, ROUNDING, &[Rounding::Once as u8]);
+    }
     out
 }
 
@@ -60,49 +78,78 @@ fn fits(tag: u8, length: usize) -> bool {
     match tag {
         POLICY => length == POLICY_BYTES,
         REQUEST => length == REQUEST_BYTES,
+        ROUNDING => length == 1,
         _ => length.is_multiple_of(RECORD_BYTES),
     }
 }
 
-/// The bodies of a form with these tags and nothing after them. At each field: nothing there is 21, a cut header 20, another tag 21, a
-/// wrong length 22, a cut body 20; a byte after the last is 21.
-fn bodies<'a>(tags: &[u8], form: &'a [u8]) -> Result<Vec<&'a [u8]>, u8> {
-    let mut left = form;
-    let mut bodies = Vec::new();
-    for due in tags {
-        let (tag, length) = match left {
-            [] => return Err(WRONG_TAG),
+/// What is left of a form. A field is read off the front, and judged whole before the next.
+struct Left<'a>(&'a [u8]);
+
+impl<'a> Left<'a> {
+    /// The body of the field that is due. Nothing there is 21, a cut header 20, another tag 21, a wrong length 22, a cut body 20.
+    fn field(&mut self, due: u8) -> Result<&'a [u8], Refusal> {
+        let (tag, length) = match self.0 {
+            [] => return Err(Refusal::of(WRONG_TAG)),
             [tag, low, high, ..] => (*tag, usize::from(*low) + 256 * usize::from(*high)),
-            _ => return Err(CUT),
+            _ => return Err(Refusal::of(CUT)),
         };
-        if tag != *due {
-            return Err(WRONG_TAG);
+        if tag != due {
+            return Err(Refusal::of(WRONG_TAG));
         }
         if !fits(tag, length) {
-            return Err(FIELD_LENGTH);
+            return Err(Refusal::of(FIELD_LENGTH));
         }
-        let after = &left[HEADER..];
+        let after = &self.0[HEADER..];
         if after.len() < length {
-            return Err(CUT);
+            return Err(Refusal::of(CUT));
         }
-        bodies.push(&after[..length]);
-        left = &after[length..];
+        let (body, left) = after.split_at(length);
+        self.0 = left;
+        Ok(body)
     }
-    match left {
-        [] => Ok(bodies),
-        _ => Err(WRONG_TAG),
+
+    /// How the policy rounds: a byte 4 begins the field that says so, and any other says nothing. Another body than 1 is 23.
+    fn rounding(&mut self) -> Result<Rounding, Refusal> {
+        if self.0.first() != Some(&ROUNDING) {
+            return Ok(Rounding::Apart);
+        }
+        match self.field(ROUNDING)? {
+            [1] => Ok(Rounding::Once),
+            _ => Err(Refusal::of(refusals::ROUNDING)),
+        }
+    }
+
+    /// A byte after the last field is 21.
+    fn end(self) -> Result<(), Refusal> {
+        match self.0 {
+            [] => Ok(()),
+            _ => Err(Refusal::of(WRONG_TAG)),
+        }
     }
 }
 
-/// The policy's bytes and the models' of a stored form.
-pub fn stored_of(form: &[u8]) -> Result<(&[u8], &[u8]), Refusal> {
-    let bodies = bodies(STORED_FORM, form).map_err(Refusal::of)?;
-    Ok((bodies[0], bodies[1]))
+/// The policy and the models' bytes at the front of a form.
+fn policy_and_bank<'a>(left: &mut Left<'a>) -> Result<(Policy, &'a [u8]), Refusal> {
+    let numbers = policy_of(left.field(POLICY)?);
+    let bank = left.field(MODELS)?;
+    Ok((numbers.by(Rules { rounding: left.rounding()? }), bank))
+}
+
+/// The policy and the models' bytes of a stored form.
+pub fn stored_of(form: &[u8]) -> Result<(Policy, &[u8]), Refusal> {
+    let mut left = Left(form);
+    let stored = policy_and_bank(&mut left)?;
+    left.end()?;
+    Ok(stored)
 }
 
 /// The request's bytes of a request form.
 pub fn request_in(form: &[u8]) -> Result<&[u8], Refusal> {
-    bodies(REQUEST_FORM, form).map(|bodies| bodies[0]).map_err(Refusal::of)
+    let mut left = Left(form);
+    let request = left.field(REQUEST)?;
+    left.end()?;
+    Ok(request)
 }
 
 /// What the program's input says.
@@ -115,14 +162,16 @@ pub struct Input<'a> {
 const TOO_MANY_FOR_THE_PROGRAM: u8 = 19;
 const MOST_IN_THE_PROGRAM: usize = 900;
 
-/// 20 to 22 over all three fields, then 19.
+/// 20 to 23 over all fields, then 19.
 pub fn input_of(input: &[u8]) -> Result<Input<'_>, Refusal> {
-    let bodies = bodies(PROGRAM_INPUT, input).map_err(Refusal::of)?;
-    let [policy, bank, request] = [bodies[0], bodies[1], bodies[2]];
+    let mut left = Left(input);
+    let (policy, bank) = policy_and_bank(&mut left)?;
+    let request = request_of(left.field(REQUEST)?);
+    left.end()?;
     if bank.len() / RECORD_BYTES > MOST_IN_THE_PROGRAM {
         return Err(Refusal::of(TOO_MANY_FOR_THE_PROGRAM));
     }
-    Ok(Input { policy: policy_of(policy), bank, request: request_of(request) })
+    Ok(Input { policy, bank, request })
 }
 
 #[cfg(test)]
@@ -150,11 +199,61 @@ mod tests {
         assert_eq!(number(&[&policy[..], &[2, 0, 0, 0]].concat()), 21, "a byte after the last field");
     }
 
+    /// A whole stored form of no models, with these bytes after it.
+    fn and(after: &[u8]) -> Vec<u8> {
+        [&stored_form(&[7; 30], &[]), after].concat()
+    }
+
+    #[test]
+    fn each_fault_of_the_field_that_says_how_to_round_has_its_number() {
+        let rounding = [4, 1, 0, 1];
+        assert_eq!(number(&and(&rounding)), 0);
+        assert_eq!(number(&and(&[4])), 20, "a byte 4 alone begins the field");
+        assert_eq!(number(&and(&[4, 1])), 20);
+        assert_eq!([1, 2, 3, 5, 9].map(|byte| number(&and(&[byte]))), [21; 5], "any other is one after the end");
+        assert_eq!(number(&and(&[4, 1, 0])), 20, "a header without its body");
+        assert_eq!(number(&and(&[4, 2, 0, 1])), 22, "another length before a cut body");
+        assert_eq!(number(&and(&[4, 0, 0])), 22);
+        assert_eq!(number(&and(&[4, 2, 0, 0, 0])), 22, "and before another body");
+        assert_eq!(number(&and(&[&[4, 1, 1][..], &[1; 257]].concat())), 22);
+        assert_eq!([0, 2, 255].map(|body| number(&and(&[4, 1, 0, body]))), [23; 3]);
+        assert_eq!(number(&and(&[4, 1, 0, 0, 0])), 23, "another body before a byte after the end");
+        assert_eq!(number(&and(&[rounding, rounding].concat())), 21, "twice");
+        let form = and(&[]);
+        assert_eq!(number(&[&form[..33], &rounding, &form[33..]].concat()), 21, "before the models");
+        assert_eq!(number(&[&[1, 31, 0][..], &[7; 30], &[1], &form[33..]].concat()), 22, "31 bytes under tag 1");
+    }
+
+    #[test]
+    fn the_programs_input_has_the_field_before_the_request() {
+        let number = |after: &[u8]| input_of(&and(after)).map_or_else(|refusal| refusal.number, |_| 0);
+        let (rounding, request) = ([4, 1, 0, 1], request_form(&[6; 70]));
+        assert_eq!(number(&request), 0);
+        assert_eq!(number(&[&rounding[..], &request].concat()), 0);
+        assert_eq!(number(&[&[4, 1, 0, 0][..], &request].concat()), 23);
+        assert_eq!(number(&[&[4, 0, 0][..], &request].concat()), 22);
+        assert_eq!([&[4][..], &[9], &[4, 1], &[4, 1, 0]].map(number), [20; 4], "fewer bytes than a field has");
+        assert_eq!(number(&[9, 0, 0]), 21);
+        assert_eq!(number(&rounding), 21, "no request after it");
+        assert_eq!(number(&[4, 1, 0, 0]), 23, "judged whole before the next");
+        assert_eq!(number(&[&rounding[..], &rounding, &request].concat()), 21);
+        assert_eq!(number(&[&request[..], &rounding].concat()), 21);
+        let read = |form: Vec<u8>| input_of(&form).map(|input| input.policy.rounding).ok();
+        assert_eq!(read(and(&request)), Some(Rounding::Apart));
+        assert_eq!(read(and(&[&rounding[..], &request].concat())), Some(Rounding::Once));
+    }
+
     #[test]
     fn what_was_written_is_read_as_the_same() {
         let (policy, bank) = ([3; 30], [5; 94]);
-        assert_eq!(stored_of(&stored_form(&policy, &bank)), Ok((&policy[..], &bank[..])));
+        assert_eq!(stored_of(&stored_form(&policy, &bank)), Ok((policy_of(&policy), &bank[..])));
         assert_eq!(request_in(&request_form(&[6; 70])), Ok(&[6; 70][..]));
+        for (rounding, bytes) in [(0, 130), (1, 134)] {
+            let policy = [&policy[..], &[rounding]].concat();
+            let form = stored_form(&policy, &bank);
+            assert_eq!((form.len(), stored_bytes(&policy, &bank)), (bytes, bytes));
+            assert_eq!(stored_of(&form), Ok((policy_of(&policy), &bank[..])));
+        }
         let most = vec![0; 1_394 * 47];
         assert_eq!(stored_form(&policy, &most).len(), 65_554);
         assert_eq!((storable(&most), storable(&[most.clone(), vec![0; 47]].concat())), (Ok(()), Err(Refusal::of(18))));

@@ -1,10 +1,10 @@
-//! A second reading of document 01, apart from the port and from the Rust: of the Rust it has the types of a record and of a request, and
-//! nothing else.
+//! A second reading of document 01, and of document 02 where it has landed (a policy may round once), apart from the port and from the Rust: of
+//! the Rust it has the types of a record and of a request, and nothing else.
 //!
-//! It decides, explains and searches by itself (`gates`, `price`, `deciding`, `search`), by `rules` that may be other than the Rust's. What the
-//! Rust doesn't have is here alone: the bytes of policy, request, record and answer, the refusal numbers and their order, the order of a
-//! trusted bank, the number of passes, the stored form and the request form, and what the programs print (the desk's sentences, which
-//! the document hasn't, from the port's rule for them).
+//! It decides, explains and searches by itself (`gates`, `price`, `deciding`, `search`), by the `rules` that a policy names, which may be other
+//! than the Rust's. What the Rust doesn't have is here alone: the bytes of policy, request, record and answer, the refusal numbers and their
+//! order, the order of a trusted bank, the number of passes, the stored form and the request form, and what the programs print (the desk's
+//! sentences, which the document hasn't, from the port's rule for them).
 pub mod boundaries;
 pub mod bytes;
 pub mod catalogue;

@@ -1,4 +1,4 @@
-//! Document 01's numbers for one record: its cost, the terms and the utility; and a price that is scaled.
+//! Document 01's numbers for one record: its cost, also as document 02 has it, the terms and the utility; and a price that is scaled.
 use super::bytes::Policy;
 use super::rules::Rounding;
 use oracle::kernel::{KernelInput, KernelModel};
@@ -20,10 +20,15 @@ pub struct Terms {
 pub fn cost(rounding: Rounding, m: &KernelModel, q: &KernelInput) -> u64 {
     let input = u128::from(q.input_tokens) * u128::from(m.input_cost_microunits_per_million_tokens);
     let output = u128::from(q.output_tokens) * u128::from(m.output_cost_microunits_per_million_tokens);
-    at_most_u64(match rounding {
+    at_most_u64(billed(rounding, input, output))
+}
+
+/// Two products in whole microunits, rounded up.
+pub fn billed(rounding: Rounding, input: u128, output: u128) -> u128 {
+    match rounding {
         Rounding::Apart => millions(input) + millions(output),
         Rounding::Once => millions(input + output),
-    })
+    }
 }
 
 /// Rounded up.

@@ -1,5 +1,5 @@
 //! Document 01's refusal numbers, the tests behind them, and the word in which the library hands one back.
-use super::bytes::{POLICY_BYTES, RECORD_BYTES, REQUEST_BYTES};
+use super::bytes::{rounding_of, LONG_POLICY_BYTES, POLICY_BYTES, RECORD_BYTES, REQUEST_BYTES};
 use oracle::kernel::KernelInput;
 
 pub const BANK_LENGTH: u8 = 1;
@@ -11,6 +11,7 @@ pub const REJECTION: u8 = 6;
 pub const NO_UTILITY: u8 = 7;
 pub const BEYOND: u8 = 8;
 pub const FIELD_LENGTH: u8 = 22;
+pub const ROUNDING: u8 = 23;
 
 pub const MOST_RECORDS: usize = 65_535;
 /// Of a risk, a confidence, a quality and a ceiling.
@@ -54,15 +55,28 @@ pub fn request_length(request: &[u8]) -> Passed {
     unless(request.len() != REQUEST_BYTES, FIELD_LENGTH)
 }
 
-/// 22, for a policy that isn't 30 bytes.
-pub fn policy_length(policy: &[u8]) -> Passed {
-    unless(policy.len() != POLICY_BYTES, FIELD_LENGTH)
+/// 22, for a policy that is neither 30 bytes nor 31.
+fn policy_length(policy: &[u8]) -> Passed {
+    unless(![POLICY_BYTES, LONG_POLICY_BYTES].contains(&policy.len()), FIELD_LENGTH)
 }
 
-/// 22, for either of the two.
-pub fn field_lengths(policy: &[u8], request: &[u8]) -> Passed {
+/// 23, for a policy of 31 bytes whose last says no way of rounding.
+fn policy_rounding(policy: &[u8]) -> Passed {
+    let told = policy.get(POLICY_BYTES);
+    unless(told.is_some_and(|number| rounding_of(*number).is_none()), ROUNDING)
+}
+
+/// 22, then 23.
+pub fn policy(policy: &[u8]) -> Passed {
     policy_length(policy)?;
-    request_length(request)
+    policy_rounding(policy)
+}
+
+/// 22 for the policy's length, 22 for the request's, then 23.
+pub fn policy_and_request(policy: &[u8], request: &[u8]) -> Passed {
+    policy_length(policy)?;
+    request_length(request)?;
+    policy_rounding(policy)
 }
 
 /// 1, then 2.
@@ -98,6 +112,20 @@ mod tests {
     fn a_word_has_each_value_in_its_place() {
         let refusal = Refusal { number: 14, field: 7, value: 10_001, id_or_place: 5 };
         assert_eq!(refusal.word(), 14 + (7 << 8) + (10_001 << 16) + (5 << 32));
+    }
+
+    #[test]
+    fn a_policy_has_30_bytes_or_31_and_the_last_of_these_is_0_or_1() {
+        let of = |length: usize, last: u8| policy(&[vec![9; length - 1], vec![last]].concat()).err();
+        assert_eq!([29, 32, 33].map(|length| of(length, 2)), [Some(Refusal::of(22)); 3], "22 before 23");
+        assert_eq!([0, 1, 2, 255].map(|last| of(30, last)), [None; 4]);
+        let unknown = Some(Refusal::of(23));
+        assert_eq!([0, 1, 2, 255].map(|last| of(31, last)), [None, None, unknown, unknown]);
+        let both = |length: usize, request: usize| policy_and_request(&vec![2; length], &vec![0; request]).err();
+        assert_eq!(
+            [both(31, 69), both(31, 70), both(32, 70), both(30, 70)].map(|it| it.map_or(0, |it| it.number)),
+            [22, 23, 22, 0]
+        );
     }
 
     #[test]

@@ -1,12 +1,13 @@
 //! By which rules an answer is owed. The Rust has one set of them; a rule in which the port departs from it is named here.
+use super::bytes::Policy;
 
-/// How a cost is rounded up.
+/// How a cost is rounded up, by the number that a policy has for it.
 #[derive(Clone, Copy, Debug, PartialEq, Eq)]
 pub enum Rounding {
     /// Input and output each by itself: the Rust's way.
-    Apart,
+    Apart = 0,
     /// Their sum, once.
-    Once,
+    Once = 1,
 }
 
 /// A field for each rule that there is another way of than the Rust's.
@@ -19,6 +20,8 @@ impl Rules {
     /// The Rust's own. Whatever holds for a case, the second reading must agree with the Rust by these.
     pub const RUST: Rules = Rules { rounding: Rounding::Apart };
 
-    /// What the library owes for an input that names no other rules.
-    pub const TODAY: Rules = Rules::RUST;
+    /// By which the library owes what is decided under a policy: those that the policy names.
+    pub fn of(policy: &Policy) -> Rules {
+        Rules { rounding: policy.rounding }
+    }
 }

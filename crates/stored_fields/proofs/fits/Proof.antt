@@ -40,10 +40,21 @@ returns-5 : tie.Need-returns-5
 unfolding fits
 returns-5 c =
     rw (
-      equal-no _ _ _ _ (c .before .before .if1 .left),
-      equal-no _ _ _ _ (c .before .if2 .left),
-      equal-no _ _ _ _ (c .if4 .left),
+      equal-no _ _ _ _ (c .before .before .before .if1 .left),
+      equal-no _ _ _ _ (c .before .before .if2 .left),
+      equal-no _ _ _ _ (c .before .if4 .left),
+      equal-yes _ _ _ _ (c .if5 .taken),
+    )
+
+returns-6 : tie.Need-returns-6
+unfolding fits
+returns-6 c =
+    rw (
+      equal-no _ _ _ _ (c .before .before .before .if1 .left),
+      equal-no _ _ _ _ (c .before .before .if2 .left),
+      equal-no _ _ _ _ (c .before .if4 .left),
+      equal-no _ _ _ _ (c .if5 .left),
     )
 
 pub fits-spec : {M : Type 1} → statement M
-fits-spec = tie.close (tie.spec returns returns-2 returns-3 returns-4 returns-5)
+fits-spec = tie.close (tie.spec returns returns-2 returns-3 returns-4 returns-5 returns-6)

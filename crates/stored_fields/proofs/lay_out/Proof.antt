@@ -13,23 +13,23 @@ abbrev μ-loop : tie.MeasureT-loop
 returns : tie.Need-returns Inv-loop μ-loop
 returns c =
     let l = c .before .before .before .before .before .before in
-    read-refused (l .before .loop .inv) (l .loop-test .taken) _ (c .before .before .before .front-field .ensures) (c .before .field2 .given .1)
+    read-refused (l .before .loop .inv) (l .loop-test .taken) _ (c .before .before .before .due-field .ensures) (c .before .field2 .given .1)
 
 -- the next position is within the form
 within : (c : tie.After-known-told Inv-loop μ-loop)
-    → c .before .before .before .before .before .before .before .loop .at + (3 + c .before .field .given .0 .0)
+    → c .before .before .before .before .before .before .before .loop .at + c .before .field .given .0 .0
     ≤ length (now (c .before .before .before .before .before .before .before .before .before .before .args .form))
 within c =
     let l = c .before .before .before .before .before .before in
-    read-within (l .before .loop .inv) (l .loop-test .taken) _ (c .before .before .before .front-field .ensures) (c .before .field .given .1)
+    read-within (l .before .loop .inv) (l .loop-test .taken) _ (c .before .before .before .due-field .ensures) (c .before .field .given .1)
 
 loop-again : tie.Need-loop-again Inv-loop μ-loop
 loop-again c =
     let l = c .before .before .before .before .before .before in
-    read-more (l .before .loop .inv) (l .loop-test .taken) _ (c .before .before .before .front-field .ensures) (c .before .field .given .1)
+    read-more (l .before .loop .inv) (l .loop-test .taken) _ (c .before .before .before .due-field .ensures) (c .before .field .given .1)
 
 pub lay-out-spec : {M : Type 1} → statement M
 lay-out-spec = tie.close (tie.spec Inv-loop μ-loop (λ c. read-none _ _) (λ c. search needs) (λ c. search needs) (λ c. search needs) (λ c. search needs)
-    (λ c κs. search needs) (λ c. search needs) (λ c. search needs) returns (λ c. omega (arith, within c)) (λ c. omega (arith, within c)) (λ c. search needs)
+    (λ c κs. search needs) (λ c. search needs) (λ c. search needs) returns (λ c. omega (arith, within c)) (λ c. search needs)
     (λ c. search needs) loop-again (λ c. read-beyond (c .before .before .loop .inv) (c .before .loop-test .left) (c .if1 .taken))
     (λ c. read-whole (c .before .before .loop .inv) (c .before .loop-test .left) (c .if1 .left)))

@@ -69,7 +69,7 @@ module _ {M : Type 1} (𝓤 : URA M) (H : Heap 𝓤) (A : Atoms 𝓤) (W : Given
     (p : PolicySnapshot) (s : RefT (List ℕ)) (q : KernelInput) (i : ℕ) (m : KernelModel) where
   -- the machine values of the policy, of the bank, of the request and of the model
   abbrev vp : Val
-  vp = P′.lowered p
+  vp = LL.val P.the-type P′.the-laws p
 
   abbrev v : Val
   v = sliceVal (s .ptr) (length (s .now))

@@ -72,7 +72,7 @@ module _ {M : Type 1} (𝓤 : URA M) (H : Heap 𝓤) (A : Atoms 𝓤) (W : Given
   vm = K′.lowered (d .model)
 
   abbrev vp : Val
-  vp = P′.lowered p
+  vp = LL.val P.the-type P′.the-laws p
 
   abbrev vq : Val
   vq = Q′.lowered q

@@ -37,14 +37,14 @@ module _ (pr : Pricing) (q : KernelInput) (rival : Candidate) (place : ℕ) (m :
 
 returns : tie.Need-returns
 unfolding bestWith
-returns c = stays _ _ _ _ (c .match .keys2) ∙ ap (against _ _ _) (c .before .verdict-apart .ensures)
+returns c = stays _ _ _ _ (c .match .keys2) ∙ ap (against _ _ _) (c .before .verdict-alone .ensures)
 
 returns-2 : tie.Need-returns-2
 returns-2 c =
     let b = c .before in
     let e = b .before in
     let v = e .before .before in
-    wins-over _ _ _ _ _ (v .before .before .verdict-apart .ensures) (v .verdict .given .1) (e .entered .ensures)
+    wins-over _ _ _ _ _ (v .before .before .verdict-alone .ensures) (v .verdict .given .1) (e .entered .ensures)
     (b .candidate-better .ensures) (c .if1 .taken)
 
 returns-3 : tie.Need-returns-3
@@ -52,7 +52,7 @@ returns-3 c =
     let b = c .before in
     let e = b .before in
     let v = e .before .before in
-    loses-to _ _ _ _ _ (v .before .before .verdict-apart .ensures) (v .verdict .given .1) (e .entered .ensures)
+    loses-to _ _ _ _ _ (v .before .before .verdict-alone .ensures) (v .verdict .given .1) (e .entered .ensures)
     (b .candidate-better .ensures) (c .if1 .left)
 
 pub best-with-spec : {M : Type 1} → statement M

@@ -1,11 +1,13 @@
 -- `counterfactual_pass::held_numbers` meets its contract: a candidate's numbers fit their fields. Assumes nothing.
-use Rattle.rules.proofs.Kit.{_%_, _^_, _≡_, arith, needs}
+use Rattle.rules.proofs.Kit.{ap, _∙_, _%_, _^_, _≡_, arith, needs}
+use Rattle.rules.specs.Records.{roundingOf}
+use Rattle.packing.proofs.Trips.{rounding-back}
 use Rattle.counterfactual_pass.proofs.held.held_numbers.Statement.{statement}
 use Rattle.counterfactual_pass.proofs.held.held_numbers.Tie as tie
 
 returns : tie.Need-returns
 returns c =
-    let s = c .before .before .before .before .before in
+    let s = c .before .before .before .before .before .before in
     let g = s .good in
     let b = s .args .rival in
     let pr = s .args .pricing in
@@ -22,8 +24,10 @@ returns c =
         «quality_prefix» = pr .«quality_prefix»;
         «risk_penalty» = pr .«risk_penalty»;
         «latency_pen_per_ms» = pr .«latency_pen_per_ms»;
+        rounding = (ap roundingOf (c .number .ensures) ∙ rounding-back (pr .rounding)) i;
       },
     )
 
 pub held-numbers-spec : {M : Type 1} → statement M
-held-numbers-spec = tie.close (tie.spec (λ c. search needs) (λ c. search needs) (λ c. search needs) (λ c. search needs) returns)
+held-numbers-spec =
+    tie.close (tie.spec (λ c. search needs) (λ c. search needs) (λ c. search needs) (λ c. search needs) (λ c κs. search needs) (λ c. search needs) returns)

@@ -18,7 +18,7 @@ returns-2 : tie.Need-returns-2
 unfolding verdictIn scanned
 returns-2 c =
     let d = c .before .before in
-    rw (← d .before .before .first-failed-gate .ensures, ← d .cost-apart .ensures)
+    rw (← d .before .before .first-failed-gate .ensures, ← d .cost-alone .ensures)
     (sym (ap (scanned _ _) (below-no _ _ _ _ (d .before .if1 .left) ∙ below-yes _ _ _ _ (c .if2 .taken))))
 
 returns-3 : tie.Need-returns-3
@@ -29,7 +29,7 @@ returns-3 c =
     let a = d .before .before .before .args in
     c .verdict-by-score .ensures
     ∙ ap (λ t. scanned (a .input) (a .model) (byScore t)) (c .before .terms-wide .ensures)
-    ∙ rw (← d .before .before .first-failed-gate .ensures, ← d .cost-apart .ensures)
+    ∙ rw (← d .before .before .first-failed-gate .ensures, ← d .cost-alone .ensures)
     (sym (ap (scanned _ _) (below-no _ _ _ _ (d .before .if1 .left) ∙ below-no _ _ _ _ (e .if2 .left))))
 
 pub candidate-verdict-spec : {M : Type 1} → statement M

@@ -36,7 +36,8 @@ returns-3 c =
     let at = head .before .before in
     let f = at .before .before .before .before in
     let enough = f .before .before .if1 .left in
-    let put = policy-and-length _ _ _ (ap length (head .policy-bytes .ensures) ∙ length-policy _) enough (first .put-bytes .ensures) (second .put64 .ensures) in
+    let long = ap length (head .policy-bytes .ensures) ∙ length-policy (at .policy .given .0 .0) in
+    let put = policy-and-length _ _ _ long enough (first .put-bytes .ensures) (second .put64 .ensures) in
     rw (room-enough storedSize _ enough, append-nil)
     (both (told-delivered (told f) storedBytes _ (ap toldStored (at .policy .given .1)) (rw (head .policy-bytes .ensures) at put)) (f .read-stored .ensures .1))
 

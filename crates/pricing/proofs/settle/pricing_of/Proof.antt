@@ -17,6 +17,7 @@ returns c =
       «quality_prefix» = (c .before .prefix-of .ensures ∙ ap (λ v. prefixOf v (s .input .«confidence_bps»)) g) i;
       «risk_penalty» = (c .share .ensures ∙ ap (λ v. wideOf (shareOf v (s .input .«risk_bps») (s .policy .«risk_penalty_multiplier_bps»))) g) i;
       «latency_pen_per_ms» = s .policy .«latency_penalty_microunits_per_ms»;
+      rounding = s .policy .rounding;
     }
 
 pub pricing-of-spec : {M : Type 1} → statement M

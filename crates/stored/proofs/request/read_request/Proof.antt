@@ -1,5 +1,5 @@
 -- `stored::request::read_request` meets its contract. Assumes nothing.
-use Rattle.rules.proofs.Kit.{ℕ, _≡_, sym, ap, _∙_, List, [], _∷_, arith, needs, now}
+use Rattle.rules.proofs.Kit.{ℕ, _≡_, refl, sym, ap, _∙_, List, [], _∷_, arith, needs, now}
 use Rattle.rules.specs.{Refused.refused, Records.inputOf, Stored.formFaults, Stored.readRequestOf}
 use Rattle.rules.proofs.Faults.{unless-refused, none-told}
 use Rattle.stored_fields.proofs.{OneField.Passed, Forms.form-passed, Lengths.request-length}
@@ -18,7 +18,7 @@ none : (c : tie.After-enum-told) → formFaults (3 ∷ []) (form₀ c) ≡ []
 none c = none-told _ (c .enum-told .given .1) (c .before .before .lay-out .ensures)
 
 field : (c : tie.After-enum-told) → Passed 3 (form₀ c)
-field c = form-passed 3 [] (form₀ c) (none c) .0
+field c = form-passed 3 [] (form₀ c) refl (none c) .0
 
 input-of-requires : tie.Need-input-of-requires
 input-of-requires c κs = rw (c .front-body .ensures) (omega (arith, request-length (form₀ (c .before)) (field (c .before))))
