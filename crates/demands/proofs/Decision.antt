@@ -7,25 +7,25 @@ use Rattle.rules.proofs.Stopped.{unstopped}
 use Rattle.demands.specs.Ranked.{Beats, judgedOf, DecidedFor}
 use Rattle.demands.proofs.Places.{judged-different, first-beats-all, second-beats-others}
 
-module _ (cost : Cost) (p : PolicySnapshot) (q : KernelInput) (ls : List Listed) (goesOn : stoppedBy p q ≡ 0) where
-  pub chosen-is : (c : Candidate) (rest : List Candidate) → ranking (judgedBy cost p q ls) ≡ c ∷ rest
-      → decisionBy cost p q ls ≡ chosen p q (length (judgedBy cost p q ls)) c rest
+module _ (costs : Cost) (p : PolicySnapshot) (q : KernelInput) (ls : List Listed) (goesOn : stoppedBy p q ≡ 0) where
+  pub chosen-is : (c : Candidate) (rest : List Candidate) → ranking (judgedBy costs p q ls) ≡ c ∷ rest
+      → decisionBy costs p q ls ≡ chosen p q (length (judgedBy costs p q ls)) c rest
   unfolding byVerdicts
-  chosen-is c rest e = unstopped cost p q ls goesOn ∙ rw e
+  chosen-is c rest e = unstopped costs p q ls goesOn ∙ rw e
 
   -- Demand 2. A request that no limit stops is decided for the first of the ranking, at its place, cost and utility; the counterfactual
   -- is the second, with its utility, 0 and 0 if there is none
-  pub decided-by-first-two : (c : Candidate) (rest : List Candidate) → ranking (judgedBy cost p q ls) ≡ c ∷ rest → DecidedFor (decisionBy cost p q ls) c rest
+  pub decided-by-first-two : (c : Candidate) (rest : List Candidate) → ranking (judgedBy costs p q ls) ≡ c ∷ rest → DecidedFor (decisionBy costs p q ls) c rest
   unfolding chosen
   decided-by-first-two c rest e =
       rw (chosen-is c rest e)
       (record { model = refl; place = refl; cost = refl; utility = refl; counterfactual = refl; counterfactualUtility = refl })
 
   -- Demand 2. Where the ranking is empty it is rejected, with the reason of the largest count
-  pub rejected-where-none : ranking (judgedBy cost p q ls) ≡ []
-      → decisionBy cost p q ls ≡ rejection p q (dominantOf (countsOf (judgedBy cost p q ls))) (length (judgedBy cost p q ls))
+  pub rejected-where-none : ranking (judgedBy costs p q ls) ≡ []
+      → decisionBy costs p q ls ≡ rejection p q (dominantOf (countsOf (judgedBy costs p q ls))) (length (judgedBy costs p q ls))
   unfolding byVerdicts
-  rejected-where-none e = unstopped cost p q ls goesOn ∙ rw e
+  rejected-where-none e = unstopped costs p q ls goesOn ∙ rw e
 
 module _ (p : PolicySnapshot) (q : KernelInput) (bank : List ℕ) where
   -- Demand 2. Of a bank, the chosen model is better than every other eligible one

@@ -8,11 +8,11 @@ use Rattle.demands.proofs.{Integers.higher-not, Integers.lower-not, Ter
 use Rattle.demands.proofs.{Eligible.told-terms, Eligible.stays-eligible}
 
 -- Demand 3. A model that is nowhere less favourable does as well: it is eligible where the other is, and the other does not rank before it
-pub as-good : (cost : Cost) → RisesWithPrices cost → (p : PolicySnapshot) (q : KernelInput) (y x : KernelModel) → Favours y x → AsGood cost p q y x
+pub as-good : (costs : Cost) → RisesWithPrices costs → (p : PolicySnapshot) (q : KernelInput) (y x : KernelModel) → Favours y x → AsGood costs p q y x
 unfolding better
-as-good cost rises p q y x f =
-    let less = cost y q in
-    let more = cost x q in
+as-good costs rises p q y x f =
+    let less = costs y q in
+    let more = costs x q in
     let h : less ≤ more = rises q y x (f .inputPrice) (f .outputPrice) in
     record {
       id = f .id;

@@ -40,17 +40,17 @@ module _ (js : List Judged) where
 
 -- ---- the eligible models of a list are its eligible records
 
-module _ (cost : Cost) (p : PolicySnapshot) (q : KernelInput) where
-  eligible-in : (k : Listed) {ls : List Listed} → List·Memᴰ k ls → Eligible cost p q (k .model)
-      → List·Memᴰ (candidateOf (judgeBy cost p q k)) (eligibles (judgedBy cost p q ls))
+module _ (costs : Cost) (p : PolicySnapshot) (q : KernelInput) where
+  eligible-in : (k : Listed) {ls : List Listed} → List·Memᴰ k ls → Eligible costs p q (k .model)
+      → List·Memᴰ (candidateOf (judgeBy costs p q k)) (eligibles (judgedBy costs p q ls))
   unfolding equal
   eligible-in k (List·Memᴰ·head {x = l} {xs = ls} e) h =
-      rw (eq-eqb (judgeBy cost p q l .verdict .kind) 4 (rw e at h)) (List·Memᴰ·head (ap (λ i. candidateOf (judgeBy cost p q i)) e))
-  eligible-in k (List·Memᴰ·tail {x = l} {xs = ls} m) h = go (eqb (judgeBy cost p q l .verdict .kind) 4) (eligible-in k m h)
+      rw (eq-eqb (judgeBy costs p q l .verdict .kind) 4 (rw e at h)) (List·Memᴰ·head (ap (λ i. candidateOf (judgeBy costs p q i)) e))
+  eligible-in k (List·Memᴰ·tail {x = l} {xs = ls} m) h = go (eqb (judgeBy costs p q l .verdict .kind) 4) (eligible-in k m h)
     where
-      go : (t : Bool) → List·Memᴰ (candidateOf (judgeBy cost p q k)) (eligibles (judgedBy cost p q ls))
-          → List·Memᴰ (candidateOf (judgeBy cost p q k))
-          (cond t (candidateOf (judgeBy cost p q l) ∷ eligibles (judgedBy cost p q ls)) (eligibles (judgedBy cost p q ls)))
+      go : (t : Bool) → List·Memᴰ (candidateOf (judgeBy costs p q k)) (eligibles (judgedBy costs p q ls))
+          → List·Memᴰ (candidateOf (judgeBy costs p q k))
+          (cond t (candidateOf (judgeBy costs p q l) ∷ eligibles (judgedBy costs p q ls)) (eligibles (judgedBy costs p q ls)))
       go true r = List·Memᴰ·tail r
       go false r = r
 
@@ -58,38 +58,38 @@ module _ (cost : Cost) (p : PolicySnapshot) (q : KernelInput) where
   record From (ls : List Listed) (c : Candidate) : Type 0 where
     source : Listed
     member : List·Memᴰ source ls
-    eligible : Eligible cost p q (source .model)
-    same : c ≡ candidateOf (judgeBy cost p q source)
+    eligible : Eligible costs p q (source .model)
+    same : c ≡ candidateOf (judgeBy costs p q source)
 
   later : (l : Listed) {ls : List Listed} {c : Candidate} → From ls c → From (l ∷ ls) c
   later l f = record { source = f .source; member = List·Memᴰ·tail (f .member); eligible = f .eligible; same = f .same }
 
-  eligible-from : (ls : List Listed) (c : Candidate) → List·Memᴰ c (eligibles (judgedBy cost p q ls)) → From ls c
+  eligible-from : (ls : List Listed) (c : Candidate) → List·Memᴰ c (eligibles (judgedBy costs p q ls)) → From ls c
   unfolding equal
   eligible-from [] c m = absurd (List·Memᴰ·not-nil m)
-  eligible-from (l ∷ ls) c m = go (λ n. eligible-from ls c n) (eqb (judgeBy cost p q l .verdict .kind) 4) refl m
+  eligible-from (l ∷ ls) c m = go (λ n. eligible-from ls c n) (eqb (judgeBy costs p q l .verdict .kind) 4) refl m
     where
-      go : (List·Memᴰ c (eligibles (judgedBy cost p q ls)) → From ls c) → (t : Bool) → eqb (judgeBy cost p q l .verdict .kind) 4 ≡ t
-          → List·Memᴰ c (cond t (candidateOf (judgeBy cost p q l) ∷ eligibles (judgedBy cost p q ls)) (eligibles (judgedBy cost p q ls))) → From (l ∷ ls) c
+      go : (List·Memᴰ c (eligibles (judgedBy costs p q ls)) → From ls c) → (t : Bool) → eqb (judgeBy costs p q l .verdict .kind) 4 ≡ t
+          → List·Memᴰ c (cond t (candidateOf (judgeBy costs p q l) ∷ eligibles (judgedBy costs p q ls)) (eligibles (judgedBy costs p q ls))) → From (l ∷ ls) c
       go ih true e m =
           ⊎-elim
-          (λ (s : c ≡ candidateOf (judgeBy cost p q l)). record { source = l; member = List·Memᴰ·head refl; eligible = eqb-true _ _ e; same = s })
+          (λ (s : c ≡ candidateOf (judgeBy costs p q l)). record { source = l; member = List·Memᴰ·head refl; eligible = eqb-true _ _ e; same = s })
           (λ n. later l (ih n))
           (List·Memᴰ·cases-cons m)
       go ih false e m = later l (ih m)
 
   module _ (ls : List Listed) where
     -- the first of the ranking is the chosen record's, and the other way about
-    pub chosen-first : (l : Listed) → Chosen cost p q ls l
-        → (rest : List Candidate) × (ranking (judgedBy cost p q ls) ≡ candidateOf (judgeBy cost p q l) ∷ rest)
+    pub chosen-first : (l : Listed) → Chosen costs p q ls l
+        → (rest : List Candidate) × (ranking (judgedBy costs p q ls) ≡ candidateOf (judgeBy costs p q l) ∷ rest)
     chosen-first l h =
-        top-first (judgedBy cost p q ls) (candidateOf (judgeBy cost p q l)) (eligible-in l (h .member) (h .eligible))
-        (each-of _ (eligibles (judgedBy cost p q ls)) (λ c m. let f = eligible-from ls c m in rw (f .same) (h .first (f .source) (f .member) (f .eligible))))
+        top-first (judgedBy costs p q ls) (candidateOf (judgeBy costs p q l)) (eligible-in l (h .member) (h .eligible))
+        (each-of _ (eligibles (judgedBy costs p q ls)) (λ c m. let f = eligible-from ls c m in rw (f .same) (h .first (f .source) (f .member) (f .eligible))))
 
-    pub first-chosen : (c : Candidate) (rest : List Candidate) → ranking (judgedBy cost p q ls) ≡ c ∷ rest
-        → (l : Listed) × Chosen cost p q ls l × (c ≡ candidateOf (judgeBy cost p q l))
+    pub first-chosen : (c : Candidate) (rest : List Candidate) → ranking (judgedBy costs p q ls) ≡ c ∷ rest
+        → (l : Listed) × Chosen costs p q ls l × (c ≡ candidateOf (judgeBy costs p q l))
     first-chosen c rest e =
-        let (m, t) = first-top (judgedBy cost p q ls) c rest e in
+        let (m, t) = first-top (judgedBy costs p q ls) c rest e in
         let f = eligible-from ls c m in (
           f .source,
           record {

@@ -21,39 +21,39 @@ unique-first (l ∷ ls) k u (List·Memᴰ·tail m) =
     rw (ne-eqb (l .model .«model_id») (k .model .«model_id») (each-member (λ (i : Listed). l .model .«model_id» ≡ i .model .«model_id» → ⊥) (u .0) m))
     (unique-first ls k (u .1) m)
 
-module _ (cost : Cost) (p : PolicySnapshot) (q : KernelInput) (ls : List Listed) (chose : isRejection (decisionBy cost p q ls) ≡ false) where
-  module _ (l : Listed) (first : firstListed (decisionBy cost p q ls .model) ls ≡ some l) where
+module _ (costs : Cost) (p : PolicySnapshot) (q : KernelInput) (ls : List Listed) (chose : isRejection (decisionBy costs p q ls) ≡ false) where
+  module _ (l : Listed) (first : firstListed (decisionBy costs p q ls .model) ls ≡ some l) where
     -- the four searches of a margin, and what they found
-    found-to-keep : let a = question cost p q ls (decisionBy cost p q ls .model) (l .model) in Answers (marginBy cost p q ls) a
+    found-to-keep : let a = question costs p q ls (decisionBy costs p q ls .model) (l .model) in Answers (marginBy costs p q ls) a
         (searchOf Lowest (wins a 1) 0 (l .model .«quality_bps»)) (searchAfterFarEnd Highest (wins a 2) (l .model .«p95_latency_ms») maxU32)
         (searchAfterFarEnd Highest (wins a 3) ppm maxPriceScale) (searchAfterFarEnd Lowest (wins a 4) 0 (l .model .«risk_ceiling_bps»))
     unfolding marginBy marginFor marginLevers
     found-to-keep =
-        let d = decisionBy cost p q ls in
-        let a = question cost p q ls (d .model) (l .model) in
-        answers (marginBy cost p q ls) a _ _ _ _ (rw (chose, first) (used-sought (d .model) d false (marginLevers a)))
+        let d = decisionBy costs p q ls in
+        let a = question costs p q ls (d .model) (l .model) in
+        answers (marginBy costs p q ls) a _ _ _ _ (rw (chose, first) (used-sought (d .model) d false (marginLevers a)))
 
-    no-refusal : marginBy cost p q ls .refusal ≡ noFault
+    no-refusal : marginBy costs p q ls .refusal ≡ noFault
     unfolding marginBy marginFor
     no-refusal =
-        let d = decisionBy cost p q ls in
-        rw (chose, first) (not-refused (d .model) d false (marginLevers (question cost p q ls (d .model) (l .model))))
+        let d = decisionBy costs p q ls in
+        rw (chose, first) (not-refused (d .model) d false (marginLevers (question costs p q ls (d .model) (l .model))))
 
     -- Demand 3, second half. THE MARGIN IS EXACT, over any list with unique ids whose decision is no rejection, by any cost that doesn't fall where
     -- prices rise
-    pub keep-exact : RisesWithPrices cost → UniqueIds ls → MarginExact (marginBy cost p q ls) (question cost p q ls (decisionBy cost p q ls .model) (l .model))
+    pub keep-exact : RisesWithPrices costs → UniqueIds ls → MarginExact (marginBy costs p q ls) (question costs p q ls (decisionBy costs p q ls .model) (l .model))
     keep-exact rises unique =
-        let id = decisionBy cost p q ls .model in
+        let id = decisionBy costs p q ls .model in
         let f = found-to-keep in
-        let turns = turns-once cost rises p q ls id l unique first in
-        let at = selected-today cost rises p q ls id l unique first (chose-selects id (decisionBy cost p q ls) chose refl) in
+        let turns = turns-once costs rises p q ls id l unique first in
+        let at = selected-today costs rises p q ls id l unique first (chose-selects id (decisionBy costs p q ls) chose refl) in
         record {
           answered = no-refusal;
           quality =
               kept-quality (λ b. refl) (turns 1 Lowest quality-ordered (marginQuality (l .model))) (f .quality) zero-le (at 1 _ (quality-today (l .model)));
           latency =
               kept (λ b. refl) (turns 2 Highest latency-ordered (marginLatency (l .model))) (f .latency) (at 2 _ (latency-today (l .model)))
-              (λ h. selects-on cost rises p q ls id l unique first 2 Highest latency-ordered (l .model .«p95_latency_ms») maxU32 (omega arith)
+              (λ h. selects-on costs rises p q ls id l unique first 2 Highest latency-ordered (l .model .«p95_latency_ms») maxU32 (omega arith)
               (at 2 _ (latency-today (l .model))));
           price = kept (λ b. refl) (turns 3 Highest price-ordered marginPrice) (f .price) (at 3 _ (price-today (l .model))) (λ h. absurd (omega arith));
           ceiling =
@@ -63,10 +63,10 @@ module _ (cost : Cost) (p : PolicySnapshot) (q : KernelInput) (ls : List Listed)
         }
 
   -- Demand 3, second half. The record that is varied is the chosen one
-  pub choice-exact : RisesWithPrices cost → UniqueIds ls → MarginOfChoice cost p q ls (marginBy cost p q ls)
+  pub choice-exact : RisesWithPrices costs → UniqueIds ls → MarginOfChoice costs p q ls (marginBy costs p q ls)
   choice-exact rises unique =
-      let (l, f) = executes cost p q ls chose in
-      let first : firstListed (decisionBy cost p q ls .model) ls ≡ some l = rw (f .id) (unique-first ls l unique (f .chosen .member)) in
+      let (l, f) = executes costs p q ls chose in
+      let first : firstListed (decisionBy costs p q ls .model) ls ≡ some l = rw (f .id) (unique-first ls l unique (f .chosen .member)) in
       record { varied = l; first = first; place = sym (f .place); exact = keep-exact l first rises unique }
 
 -- Demand 3, second half. THE MARGIN IS EXACT, of a bank with unique ids whose decision is no rejection, however the policy rounds

@@ -24,8 +24,8 @@ other : (before after : List Listed) (l k : Listed) → List·Memᴰ k before �
 other before after l k (inl m) = Memᴰ·append-left (l ∷ after) m
 other before after l k (inr m) = Memᴰ·append-right before (List·Memᴰ·tail m)
 
-module _ (cost : Cost) (p : PolicySnapshot) (q : KernelInput) (before after : List Listed) (place : ℕ) (x y : KernelModel)
-    (good : AsGood cost p q y x) where
+module _ (costs : Cost) (p : PolicySnapshot) (q : KernelInput) (before after : List Listed) (place : ℕ) (x y : KernelModel)
+    (good : AsGood costs p q y x) where
   abbrev with-x : List Listed
   with-x = before ++ listed place x ∷ after
 
@@ -33,7 +33,7 @@ module _ (cost : Cost) (p : PolicySnapshot) (q : KernelInput) (before after : Li
   with-y = before ++ listed place y ∷ after
 
   -- where x is chosen, y is
-  chosen-monotone : Chosen cost p q with-x (listed place x) → Chosen cost p q with-y (listed place y)
+  chosen-monotone : Chosen costs p q with-x (listed place x) → Chosen costs p q with-y (listed place y)
   chosen-monotone h =
       record {
         member = Memᴰ·append-right before (List·Memᴰ·head refl);
@@ -41,23 +41,23 @@ module _ (cost : Cost) (p : PolicySnapshot) (q : KernelInput) (before after : Li
         first = λ k m e. go k e (among before after (listed place y) k m);
       }
     where
-      go : (k : Listed) → Eligible cost p q (k .model) → (k ≡ listed place y) ⊎ (List·Memᴰ k before ⊎ List·Memᴰ k after)
-          → better (candidateOf (judgeBy cost p q k)) (candidateOf (judgeBy cost p q (listed place y))) ≡ false
-      go k e (inl s) = rw s (better-not-itself (candidateOf (judgeBy cost p q (listed place y))))
+      go : (k : Listed) → Eligible costs p q (k .model) → (k ≡ listed place y) ⊎ (List·Memᴰ k before ⊎ List·Memᴰ k after)
+          → better (candidateOf (judgeBy costs p q k)) (candidateOf (judgeBy costs p q (listed place y))) ≡ false
+      go k e (inl s) = rw s (better-not-itself (candidateOf (judgeBy costs p q (listed place y))))
       go k e (inr m) =
-          still-after (candidateOf (judgeBy cost p q k)) (candidateOf (judgeBy cost p q (listed place x))) (candidateOf (judgeBy cost p q (listed place y)))
+          still-after (candidateOf (judgeBy costs p q k)) (candidateOf (judgeBy costs p q (listed place x))) (candidateOf (judgeBy costs p q (listed place y)))
           (h .first k (other before after (listed place x) k m) e)
           (good .notAfter (h .eligible) place)
 
   -- Demand 3. SELECTION IS MONOTONE, for any stand-in: where no other record has the id, and the id is selected with x in a place, it is
   -- selected with any y there that does as well
-  pub selection-monotone : (id : ℕ) → x .«model_id» ≡ id → Lacks id before → Lacks id after → selects id (decisionBy cost p q with-x) ≡ true
-      → selects id (decisionBy cost p q with-y) ≡ true
+  pub selection-monotone : (id : ℕ) → x .«model_id» ≡ id → Lacks id before → Lacks id after → selects id (decisionBy costs p q with-x) ≡ true
+      → selects id (decisionBy costs p q with-y) ≡ true
   selection-monotone id same b a e =
-      let (z, l, h, i) = selected-chosen cost p q with-x id e in
-      subst (λ i. selects i (decisionBy cost p q with-y) ≡ true) (good .id ∙ same)
-      (chosen-selected cost p q with-y (listed place y) z
-      (chosen-monotone (subst (Chosen cost p q with-x) (it l i (among before after (listed place x) l (h .member))) h)))
+      let (z, l, h, i) = selected-chosen costs p q with-x id e in
+      subst (λ i. selects i (decisionBy costs p q with-y) ≡ true) (good .id ∙ same)
+      (chosen-selected costs p q with-y (listed place y) z
+      (chosen-monotone (subst (Chosen costs p q with-x) (it l i (among before after (listed place x) l (h .member))) h)))
     where
       it : (l : Listed) → l .model .«model_id» ≡ id → (l ≡ listed place x) ⊎ (List·Memᴰ l before ⊎ List·Memᴰ l after) → l ≡ listed place x
       it l i (inl s) = s

@@ -58,30 +58,30 @@ unless-passes : (fs : Faults) (b : Boundary) → unless fs boundaryRefused b .pa
 unless-passes [] b = refl
 unless-passes (f ∷ fs) b = refl
 
-module _ (cost : Cost) (p : PolicySnapshot) (q : KernelInput) (ls : List Listed) where
+module _ (costs : Cost) (p : PolicySnapshot) (q : KernelInput) (ls : List Listed) where
   -- Demand 3. THE PASSES OF WHAT WOULD WIN ARE THOSE OWED, over any list
-  pub win-passes : (id : ℕ) → winBy cost p q ls id .passes ≡ passesToWinIn cost p q ls id
+  pub win-passes : (id : ℕ) → winBy costs p q ls id .passes ≡ passesToWinIn costs p q ls id
   unfolding winBy passesToWinIn
   win-passes id = go (firstListed id ls)
     where
-      go : (o : Option Listed) → winIfListed cost p q ls id o .passes ≡ passesIfListed passesToWin cost p q ls id o
+      go : (o : Option Listed) → winIfListed costs p q ls id o .passes ≡ passesIfListed passesToWin costs p q ls id o
       go none = refl
-      go (some l) = for-passes (question cost p q ls id (l .model))
+      go (some l) = for-passes (question costs p q ls id (l .model))
 
   -- Demand 3. AND SO ARE THOSE OF A MARGIN
-  pub keep-passes : marginBy cost p q ls .passes ≡ passesToKeepIn cost p q ls
+  pub keep-passes : marginBy costs p q ls .passes ≡ passesToKeepIn costs p q ls
   unfolding marginBy marginFor boundaryOf passesToKeepIn
   keep-passes = go (isRejection d) (firstListed (d .model) ls)
     where
       d : Decision
-      d = decisionBy cost p q ls
+      d = decisionBy costs p q ls
 
       go : (rejects : Bool) (o : Option Listed)
-          → pick rejects (λ _. boundaryRefused (fault 6)) (λ _. marginIfListed cost p q ls d o) .passes
-          ≡ cond rejects 0 (passesIfListed marginPasses cost p q ls (d .model) o)
+          → pick rejects (λ _. boundaryRefused (fault 6)) (λ _. marginIfListed costs p q ls d o) .passes
+          ≡ cond rejects 0 (passesIfListed marginPasses costs p q ls (d .model) o)
       go true o = refl
       go false none = refl
-      go false (some l) = margin-levers-passes (question cost p q ls (d .model) (l .model))
+      go false (some l) = margin-levers-passes (question costs p q ls (d .model) (l .model))
 
 module _ (p : PolicySnapshot) (q : KernelInput) (bank : List ℕ) where
   -- Demand 3. THE PASSES OF THE CALL `what_would_win` ARE THOSE OWED, whatever is asked: refused or not, stopped, selected, off, or searched
@@ -152,38 +152,38 @@ unless-few : (n : ℕ) (fs : Faults) (b : Boundary) → b .passes ≤ n → unle
 unless-few n [] b h = h
 unless-few n (f ∷ fs) b h = omega arith
 
-module _ (cost : Cost) (p : PolicySnapshot) (q : KernelInput) (ls : List Listed) where
+module _ (costs : Cost) (p : PolicySnapshot) (q : KernelInput) (ls : List Listed) where
   listed-few : (n : ℕ) (passes : Question → ℕ) (id : ℕ) (o : Option Listed)
-      → ((l : Listed) → o ≡ some l → passes (question cost p q ls id (l .model)) ≤ n)
-      → passesIfListed passes cost p q ls id o ≤ n
+      → ((l : Listed) → o ≡ some l → passes (question costs p q ls id (l .model)) ≤ n)
+      → passesIfListed passes costs p q ls id o ≤ n
   listed-few n passes id none h = omega arith
   listed-few n passes id (some l) h = h l refl
 
   kept-few : (k : ℕ)
-      → ((l : Listed) → firstListed (decisionBy cost p q ls .model) ls ≡ some l → (l .model .«quality_bps» < 2 ^ k) × (l .model .«risk_ceiling_bps» < 2 ^ k))
-      → marginBy cost p q ls .passes ≤ 71 + 2 * k
+      → ((l : Listed) → firstListed (decisionBy costs p q ls .model) ls ≡ some l → (l .model .«quality_bps» < 2 ^ k) × (l .model .«risk_ceiling_bps» < 2 ^ k))
+      → marginBy costs p q ls .passes ≤ 71 + 2 * k
   unfolding passesToKeepIn
   kept-few k h =
-      rw (keep-passes cost p q ls)
-      (either-few {a = 0} (isRejection (decisionBy cost p q ls)) (omega arith)
-      (listed-few (71 + 2 * k) marginPasses (decisionBy cost p q ls .model) (firstListed (decisionBy cost p q ls .model) ls)
-      (λ l e. margin-passes-few k (question cost p q ls _ (l .model)) (h l e .0) (h l e .1))))
+      rw (keep-passes costs p q ls)
+      (either-few {a = 0} (isRejection (decisionBy costs p q ls)) (omega arith)
+      (listed-few (71 + 2 * k) marginPasses (decisionBy costs p q ls .model) (firstListed (decisionBy costs p q ls .model) ls)
+      (λ l e. margin-passes-few k (question costs p q ls _ (l .model)) (h l e .0) (h l e .1))))
 
   -- Demand 3. WHAT WOULD WIN TAKES AT MOST 86 PASSES, over any list: the model asked about needs only a latency of 32 bits
-  pub win-few : (id : ℕ) → ((l : Listed) → firstListed id ls ≡ some l → l .model .«p95_latency_ms» ≤ 2 ^ 32 - 1) → winBy cost p q ls id .passes ≤ mostToWin
+  pub win-few : (id : ℕ) → ((l : Listed) → firstListed id ls ≡ some l → l .model .«p95_latency_ms» ≤ 2 ^ 32 - 1) → winBy costs p q ls id .passes ≤ mostToWin
   unfolding passesToWinIn
   win-few id h =
-      rw (win-passes cost p q ls id)
-      (listed-few mostToWin passesToWin id (firstListed id ls) (λ l e. to-win-few (question cost p q ls id (l .model)) (h l e)))
+      rw (win-passes costs p q ls id)
+      (listed-few mostToWin passesToWin id (firstListed id ls) (λ l e. to-win-few (question costs p q ls id (l .model)) (h l e)))
 
   -- Demand 3. A MARGIN TAKES AT MOST 103 PASSES, over any list: the model that is varied needs only a quality and a ceiling of 16 bits
-  pub margin-few : ((l : Listed) → firstListed (decisionBy cost p q ls .model) ls ≡ some l → BpsWithin 65535 (l .model))
-      → marginBy cost p q ls .passes ≤ mostForMargin
+  pub margin-few : ((l : Listed) → firstListed (decisionBy costs p q ls .model) ls ≡ some l → BpsWithin 65535 (l .model))
+      → marginBy costs p q ls .passes ≤ mostForMargin
   margin-few h = kept-few 16 (λ l e. let w = h l e in ((omega arith), (omega arith)))
 
   -- Demand 3. And at most 99 where these are within 10,000
-  pub margin-few-within : ((l : Listed) → firstListed (decisionBy cost p q ls .model) ls ≡ some l → BpsWithin 10000 (l .model))
-      → marginBy cost p q ls .passes ≤ mostForMarginWithin
+  pub margin-few-within : ((l : Listed) → firstListed (decisionBy costs p q ls .model) ls ≡ some l → BpsWithin 10000 (l .model))
+      → marginBy costs p q ls .passes ≤ mostForMarginWithin
   margin-few-within h = kept-few 14 (λ l e. let w = h l e in ((omega arith), (omega arith)))
 
 module _ (p : PolicySnapshot) (q : KernelInput) (bank : List ℕ) where

@@ -42,38 +42,38 @@ module _ (p : PolicySnapshot) (q : KernelInput) where
       go true = refl
       go false = refl
 
-module _ (cost : Cost) (p : PolicySnapshot) (q : KernelInput) (ls : List Listed) where
+module _ (costs : Cost) (p : PolicySnapshot) (q : KernelInput) (ls : List Listed) where
   -- a decision that is no rejection is for a chosen record, with its id and place
   pub record For (l : Listed) : Type 0 where
-    pub chosen : Chosen cost p q ls l
-    pub id : decisionBy cost p q ls .model ≡ l .model .«model_id»
-    pub place : decisionBy cost p q ls .place ≡ l .place
+    pub chosen : Chosen costs p q ls l
+    pub id : decisionBy costs p q ls .model ≡ l .model .«model_id»
+    pub place : decisionBy costs p q ls .place ≡ l .place
 
-  pub executes : isRejection (decisionBy cost p q ls) ≡ false → (l : Listed) × For l
-  executes e = go (ranking (judgedBy cost p q ls)) refl
+  pub executes : isRejection (decisionBy costs p q ls) ≡ false → (l : Listed) × For l
+  executes e = go (ranking (judgedBy costs p q ls)) refl
     where
       z : stoppedBy p q ≡ 0
-      z = not-stopped cost p q ls e
+      z = not-stopped costs p q ls e
 
-      go : (cs : List Candidate) → ranking (judgedBy cost p q ls) ≡ cs → (l : Listed) × For l
-      go [] r = absurd (false≢true (sym e ∙ ap isRejection (rejected-where-none cost p q ls z r) ∙ rejection-is p q _ _))
+      go : (cs : List Candidate) → ranking (judgedBy costs p q ls) ≡ cs → (l : Listed) × For l
+      go [] r = absurd (false≢true (sym e ∙ ap isRejection (rejected-where-none costs p q ls z r) ∙ rejection-is p q _ _))
       go (c ∷ rest) r =
-          let (l, h, s) = first-chosen cost p q ls c rest r in
-          let d = decided-by-first-two cost p q ls z c rest r in
+          let (l, h, s) = first-chosen costs p q ls c rest r in
+          let d = decided-by-first-two costs p q ls z c rest r in
           (l, record { chosen = h; id = d .model ∙ ap (λ (x : Candidate). x .id) s; place = d .place ∙ ap (λ (x : Candidate). x .place) s })
 
   -- so what is selected is the id of a chosen record
-  pub selected-chosen : (id : ℕ) → selects id (decisionBy cost p q ls) ≡ true
-      → (stoppedBy p q ≡ 0) × (l : Listed) × Chosen cost p q ls l × (l .model .«model_id» ≡ id)
+  pub selected-chosen : (id : ℕ) → selects id (decisionBy costs p q ls) ≡ true
+      → (stoppedBy p q ≡ 0) × (l : Listed) × Chosen costs p q ls l × (l .model .«model_id» ≡ id)
   selected-chosen id e =
-      let (a, b) = selects-chose id (decisionBy cost p q ls) e in
+      let (a, b) = selects-chose id (decisionBy costs p q ls) e in
       let (l, f) = executes a in
-      (not-stopped cost p q ls a, l, f .chosen, sym (f .id) ∙ b)
+      (not-stopped costs p q ls a, l, f .chosen, sym (f .id) ∙ b)
 
   -- and the id of a chosen record is selected
-  pub chosen-selected : (l : Listed) → stoppedBy p q ≡ 0 → Chosen cost p q ls l → selects (l .model .«model_id») (decisionBy cost p q ls) ≡ true
+  pub chosen-selected : (l : Listed) → stoppedBy p q ≡ 0 → Chosen costs p q ls l → selects (l .model .«model_id») (decisionBy costs p q ls) ≡ true
   chosen-selected l z h =
-      let (rest, r) = chosen-first cost p q ls l h in
-      chose-selects (l .model .«model_id») (decisionBy cost p q ls)
-      (ap isRejection (chosen-is cost p q ls z (candidateOf (judgeBy cost p q l)) rest r) ∙ chosen-is-none p q _ _ rest)
-      (decided-by-first-two cost p q ls z (candidateOf (judgeBy cost p q l)) rest r .model)
+      let (rest, r) = chosen-first costs p q ls l h in
+      chose-selects (l .model .«model_id») (decisionBy costs p q ls)
+      (ap isRejection (chosen-is costs p q ls z (candidateOf (judgeBy costs p q l)) rest r) ∙ chosen-is-none p q _ _ rest)
+      (decided-by-first-two costs p q ls z (candidateOf (judgeBy costs p q l)) rest r .model)

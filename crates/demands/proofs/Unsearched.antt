@@ -30,38 +30,38 @@ stopped-at-setting a lever v h = rejected-at-setting a lever v (stopped-rejects 
 
 -- ---- what would win, over any list
 
-module _ (cost : Cost) (p : PolicySnapshot) (q : KernelInput) (ls : List Listed) (id : ℕ) (l : Listed) (first : firstListed id ls ≡ some l) where
+module _ (costs : Cost) (p : PolicySnapshot) (q : KernelInput) (ls : List Listed) (id : ℕ) (l : Listed) (first : firstListed id ls ≡ some l) where
   -- Demand 3. Stopped by a request limit: no entry
-  pub stopped-empty : 0 < stoppedBy p q → entriesOf (winBy cost p q ls id) ≡ []
+  pub stopped-empty : 0 < stoppedBy p q → entriesOf (winBy costs p q ls id) ≡ []
   unfolding winBy winFor boundaryOf
   stopped-empty h = rw (first, ne-eqb (stoppedBy p q) 0 (λ e. omega arith))
 
   -- Demand 3. Selected already: no entry
-  pub selected-empty : selects id (decisionBy cost p q ls) ≡ true → entriesOf (winBy cost p q ls id) ≡ []
+  pub selected-empty : selects id (decisionBy costs p q ls) ≡ true → entriesOf (winBy costs p q ls id) ≡ []
   unfolding winBy winFor boundaryOf
-  selected-empty e = let z = selected-chosen cost p q ls id e .0 in rw (first, z, e)
+  selected-empty e = let z = selected-chosen costs p q ls id e .0 in rw (first, z, e)
 
-module _ (cost : Cost) (p : PolicySnapshot) (q : KernelInput) (ls : List Listed) (id : ℕ) (l : Listed) (u : Unselected cost p q ls id l)
+module _ (costs : Cost) (p : PolicySnapshot) (q : KernelInput) (ls : List Listed) (id : ℕ) (l : Listed) (u : Unselected costs p q ls id l)
     (off : l .model .enabled ≡ 0) where
-  off-used : entriesOf (winBy cost p q ls id) ≡ ifOn (wins (question cost p q ls id (l .model)) 5 1) .entries
+  off-used : entriesOf (winBy costs p q ls id) ≡ ifOn (wins (question costs p q ls id (l .model)) 5 1) .entries
   unfolding winSearch
-  off-used = used-searched cost p q ls id l u ∙ rw off
+  off-used = used-searched costs p q ls id l u ∙ rw off
 
   -- Demand 3. SWITCHED OFF: enabled is listed exactly if switching it on selects the id
-  pub off-exact : OffExact (winBy cost p q ls id) (question cost p q ls id (l .model))
-  off-exact = go (wins (question cost p q ls id (l .model)) 5 1) refl off-used
+  pub off-exact : OffExact (winBy costs p q ls id) (question costs p q ls id (l .model))
+  off-exact = go (wins (question costs p q ls id (l .model)) 5 1) refl off-used
     where
-      go : (t : Bool) → wins (question cost p q ls id (l .model)) 5 1 ≡ t → entriesOf (winBy cost p q ls id) ≡ ifOn t .entries
-          → OffExact (winBy cost p q ls id) (question cost p q ls id (l .model))
+      go : (t : Bool) → wins (question costs p q ls id (l .model)) 5 1 ≡ t → entriesOf (winBy costs p q ls id) ≡ ifOn t .entries
+          → OffExact (winBy costs p q ls id) (question costs p q ls id (l .model))
       go true w k =
           record {
-            answered = no-refusal cost p q ls id l u;
+            answered = no-refusal costs p q ls id l u;
             given = (λ s. w, λ s. k);
             missing = (λ s. absurd (omega (arith, ap length (sym k ∙ s))), λ s. absurd (false≢true (sym s ∙ w)));
           }
       go false w k =
           record {
-            answered = no-refusal cost p q ls id l u;
+            answered = no-refusal costs p q ls id l u;
             given = (λ s. absurd (omega (arith, ap length (sym k ∙ s))), λ s. absurd (false≢true (sym w ∙ s)));
             missing = (λ s. w, λ s. k);
           }

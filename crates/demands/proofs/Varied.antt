@@ -72,29 +72,29 @@ module _ (ls : List Listed) (id : ℕ) (l : Listed) (first : firstListed id ls �
   unfolding leverAt
   own-id lever v = split id ls l first .has
 
-module _ (cost : Cost) (rises : RisesWithPrices cost) (p : PolicySnapshot) (q : KernelInput) (ls : List Listed) (id : ℕ) (l : Listed)
+module _ (costs : Cost) (rises : RisesWithPrices costs) (p : PolicySnapshot) (q : KernelInput) (ls : List Listed) (id : ℕ) (l : Listed)
     (unique : UniqueIds ls) (first : firstListed id ls ≡ some l) where
   -- Demand 3. With unique ids, where an id is selected with x for its model, it is selected with any y that is nowhere less favourable
-  pub varied-monotone : (x y : KernelModel) → x .«model_id» ≡ id → Favours y x → selects id (decisionBy cost p q (varied id x ls)) ≡ true
-      → selects id (decisionBy cost p q (varied id y ls)) ≡ true
+  pub varied-monotone : (x y : KernelModel) → x .«model_id» ≡ id → Favours y x → selects id (decisionBy costs p q (varied id x ls)) ≡ true
+      → selects id (decisionBy costs p q (varied id y ls)) ≡ true
   varied-monotone x y i f e =
       let s = split id ls l first in
       rw (s .standIn y)
-      (selection-monotone cost p q (s .before) (s .after) (l .place) x y (as-good cost rises p q y x f) id i (s .lacks) (lacks-after id ls l unique s)
+      (selection-monotone costs p q (s .before) (s .after) (l .place) x y (as-good costs rises p q y x f) id i (s .lacks) (lacks-after id ls l unique s)
       (rw (s .standIn x) at e))
 
   -- Demand 3. So a lever whose settings are ordered turns once: where a setting selects the id, every more favourable one does
-  pub selects-on : (lever : ℕ) (side : Side) → Ordered lever side → (u v : ℕ) → AtOrBetter side u v → wins (question cost p q ls id (l .model)) lever u ≡ true
-      → wins (question cost p q ls id (l .model)) lever v ≡ true
+  pub selects-on : (lever : ℕ) (side : Side) → Ordered lever side → (u v : ℕ) → AtOrBetter side u v → wins (question costs p q ls id (l .model)) lever u ≡ true
+      → wins (question costs p q ls id (l .model)) lever v ≡ true
   unfolding wins decisionAt
   selects-on lever side o u v h e =
       varied-monotone (leverAt lever u (l .model)) (leverAt lever v (l .model)) (own-id ls id l first lever u) (o (l .model) u v h) e
 
-  pub turns-once : (lever : ℕ) (side : Side) → Ordered lever side → (r : Range) → TurnsOnce side (wins (question cost p q ls id (l .model)) lever) r
+  pub turns-once : (lever : ℕ) (side : Side) → Ordered lever side → (r : Range) → TurnsOnce side (wins (question costs p q ls id (l .model)) lever) r
   turns-once lever side o r u v _ _ h e = selects-on lever side o u v h e
 
   -- and where the id is selected as the list stands, it is selected at a setting that is nowhere less favourable
-  pub selected-today : selects id (decisionBy cost p q ls) ≡ true → (lever v : ℕ) → Favours (leverAt lever v (l .model)) (l .model)
-      → wins (question cost p q ls id (l .model)) lever v ≡ true
+  pub selected-today : selects id (decisionBy costs p q ls) ≡ true → (lever v : ℕ) → Favours (leverAt lever v (l .model)) (l .model)
+      → wins (question costs p q ls id (l .model)) lever v ≡ true
   unfolding wins decisionAt
   selected-today e lever v f = varied-monotone (l .model) (leverAt lever v (l .model)) (split id ls l first .has) f (rw (unvaried ls id l first) e)

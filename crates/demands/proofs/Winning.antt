@@ -15,34 +15,34 @@ pub answered-win : (p : PolicySnapshot) (q : KernelInput) (bank : List ℕ) (id 
 unfolding whatWouldWinOf
 answered-win p q bank id e = rw e
 
-module _ (cost : Cost) (p : PolicySnapshot) (q : KernelInput) (ls : List Listed) (id : ℕ) (l : Listed) (u : Unselected cost p q ls id l) where
+module _ (costs : Cost) (p : PolicySnapshot) (q : KernelInput) (ls : List Listed) (id : ℕ) (l : Listed) (u : Unselected costs p q ls id l) where
   -- neither stopped nor selected: the search is made
-  pub searched : winBy cost p q ls id ≡ boundaryOf id (decisionBy cost p q ls) false (winSearch (question cost p q ls id (l .model)))
+  pub searched : winBy costs p q ls id ≡ boundaryOf id (decisionBy costs p q ls) false (winSearch (question costs p q ls id (l .model)))
   unfolding winBy winFor
   searched = rw (u .listed, u .goesOn, u .notSelected)
 
-  pub used-searched : entriesOf (winBy cost p q ls id) ≡ winSearch (question cost p q ls id (l .model)) .entries
-  used-searched = ap entriesOf searched ∙ used-sought id (decisionBy cost p q ls) false (winSearch (question cost p q ls id (l .model)))
+  pub used-searched : entriesOf (winBy costs p q ls id) ≡ winSearch (question costs p q ls id (l .model)) .entries
+  used-searched = ap entriesOf searched ∙ used-sought id (decisionBy costs p q ls) false (winSearch (question costs p q ls id (l .model)))
 
-  pub no-refusal : winBy cost p q ls id .refusal ≡ noFault
-  no-refusal = rw searched (not-refused id (decisionBy cost p q ls) false (winSearch (question cost p q ls id (l .model))))
+  pub no-refusal : winBy costs p q ls id .refusal ≡ noFault
+  no-refusal = rw searched (not-refused id (decisionBy costs p q ls) false (winSearch (question costs p q ls id (l .model))))
 
   -- switched on: four levers, and what they found
   found-to-win : SwitchedOn (l .model)
       → let a =
-      question cost p q ls id (l .model) in Answers (winBy cost p q ls id) a (searchOf Lowest (wins a 1) (l .model .«quality_bps») maxBps)
+      question costs p q ls id (l .model) in Answers (winBy costs p q ls id) a (searchOf Lowest (wins a 1) (l .model .«quality_bps») maxBps)
       (searchOf Highest (wins a 2) 0 (l .model .«p95_latency_ms»)) (searchOf Highest (wins a 3) 0 ppm)
       (searchOf Lowest (wins a 4) (l .model .«risk_ceiling_bps») maxBps)
   unfolding winSearch winLevers
   found-to-win h =
-      answers (winBy cost p q ls id) (question cost p q ls id (l .model)) _ _ _ _
+      answers (winBy costs p q ls id) (question costs p q ls id (l .model)) _ _ _ _
       (used-searched ∙ rw (ne-eqb (l .model .enabled) 0 h))
 
   -- Demand 3, first half. WHAT WOULD WIN IS EXACT, over any list with unique ids and by any cost that doesn't fall where prices rise
-  pub win-exact : RisesWithPrices cost → UniqueIds ls → SwitchedOn (l .model) → WinExact (winBy cost p q ls id) (question cost p q ls id (l .model))
+  pub win-exact : RisesWithPrices costs → UniqueIds ls → SwitchedOn (l .model) → WinExact (winBy costs p q ls id) (question costs p q ls id (l .model))
   win-exact rises unique h =
       let f = found-to-win h in
-      let turns = turns-once cost rises p q ls id l unique (u .listed) in
+      let turns = turns-once costs rises p q ls id l unique (u .listed) in
       record {
         answered = no-refusal;
         quality = won (λ b. refl) (turns 1 Lowest quality-ordered (winQuality (l .model))) (f .quality);

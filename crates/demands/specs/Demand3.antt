@@ -90,10 +90,10 @@ HasBoundary es entryAt = (b : ℕ) × (es ≡ entryAt b ∷ [])
 -- ---- first half: what would win
 
 -- Of whom it speaks: a listed model neither selected nor stopped by a request limit; l is the first listed record with the id
-pub record Unselected (cost : Cost) (p : PolicySnapshot) (q : KernelInput) (ls : List Listed) (id : ℕ) (l : Listed) : Type 0 where
+pub record Unselected (costs : Cost) (p : PolicySnapshot) (q : KernelInput) (ls : List Listed) (id : ℕ) (l : Listed) : Type 0 where
   pub listed : firstListed id ls ≡ some l
   pub goesOn : stoppedBy p q ≡ 0
-  pub notSelected : selects id (decisionBy cost p q ls) ≡ false
+  pub notSelected : selects id (decisionBy costs p q ls) ≡ false
 
 -- Switched on: enabled is anything but 0
 abbrev pub SwitchedOn : KernelModel → Type 0
@@ -145,11 +145,11 @@ pub record MarginExact (answer : Boundary) (a : Question) : Type 0 where
   pub whole : entriesOf answer ≡ entriesFor 1 answer ++ (entriesFor 2 answer ++ (entriesFor 3 answer ++ entriesFor 4 answer))
 
 -- The record that a margin varies is the chosen one: the first listed with the chosen id, at the chosen place; and over it the answer is exact
-pub record MarginOfChoice (cost : Cost) (p : PolicySnapshot) (q : KernelInput) (ls : List Listed) (answer : Boundary) : Type 0 where
+pub record MarginOfChoice (costs : Cost) (p : PolicySnapshot) (q : KernelInput) (ls : List Listed) (answer : Boundary) : Type 0 where
   pub varied : Listed
-  pub first : firstListed (decisionBy cost p q ls .model) ls ≡ some varied
-  pub place : varied .place ≡ decisionBy cost p q ls .place
-  pub exact : MarginExact answer (question cost p q ls (decisionBy cost p q ls .model) (varied .model))
+  pub first : firstListed (decisionBy costs p q ls .model) ls ≡ some varied
+  pub place : varied .place ≡ decisionBy costs p q ls .place
+  pub exact : MarginExact answer (question costs p q ls (decisionBy costs p q ls .model) (varied .model))
 
 -- ---- passes
 
@@ -193,21 +193,21 @@ passesToWin a =
 
 -- A refusal carries no count: neither an id that isn't listed nor a bank with a fault of its length has a pass
 abbrev pub passesIfListed : (Question → ℕ) → Cost → PolicySnapshot → KernelInput → List Listed → ℕ → Option Listed → ℕ
-passesIfListed passes cost p q ls id none = 0
-passesIfListed passes cost p q ls id (some l) = passes (question cost p q ls id (l .model))
+passesIfListed passes costs p q ls id none = 0
+passesIfListed passes costs p q ls id (some l) = passes (question costs p q ls id (l .model))
 
 -- The passes that `what_would_win` owes, in every case: over a list, and over a bank
 unfoldable pub passesToWinIn : Cost → PolicySnapshot → KernelInput → List Listed → ℕ → ℕ
-passesToWinIn cost p q ls id = passesIfListed passesToWin cost p q ls id (firstListed id ls)
+passesToWinIn costs p q ls id = passesIfListed passesToWin costs p q ls id (firstListed id ls)
 
 unfoldable pub passesToWinOf : PolicySnapshot → KernelInput → List ℕ → ℕ → ℕ
 passesToWinOf p q bank id = unless (bankFaults bank) (λ f. 0) (passesToWinIn (costUnder p) p q (listedOf bank) id)
 
 -- And those that `decision_margin` owes: none where the decision is a rejection, which is refused too
 unfoldable pub passesToKeepIn : Cost → PolicySnapshot → KernelInput → List Listed → ℕ
-passesToKeepIn cost p q ls =
-    let d = decisionBy cost p q ls in
-    cond (isRejection d) 0 (passesIfListed marginPasses cost p q ls (d .model) (firstListed (d .model) ls))
+passesToKeepIn costs p q ls =
+    let d = decisionBy costs p q ls in
+    cond (isRejection d) 0 (passesIfListed marginPasses costs p q ls (d .model) (firstListed (d .model) ls))
 
 unfoldable pub passesToKeepOf : PolicySnapshot → KernelInput → List ℕ → ℕ
 passesToKeepOf p q bank = unless (bankFaults bank) (λ f. 0) (passesToKeepIn (costUnder p) p q (listedOf bank))

@@ -19,24 +19,24 @@ use Rattle.demands.specs.Exact.{AtOrBetter}
 
 -- A rule of cost that doesn't fall where prices rise: for any request, a model costs no more than one that has neither price lower
 abbrev pub RisesWithPrices : Cost → Type 0
-RisesWithPrices cost =
+RisesWithPrices costs =
     (q : KernelInput) (y x : KernelModel) → y .«input_cost_microunits_per_million_tokens» ≤ x .«input_cost_microunits_per_million_tokens»
     → y .«output_cost_microunits_per_million_tokens» ≤ x .«output_cost_microunits_per_million_tokens»
-    → cost y q ≤ cost x q
+    → costs y q ≤ costs x q
 
 -- Verdict 4
 abbrev pub Eligible : Cost → PolicySnapshot → KernelInput → KernelModel → Type 0
-Eligible cost p q m = verdictCosting p q m (cost m q) .kind ≡ 4
+Eligible costs p q m = verdictCosting p q m (costs m q) .kind ≡ 4
 
 -- What a model is ranked by where it stands at a place
 abbrev pub candidateAt : Cost → PolicySnapshot → KernelInput → ℕ → KernelModel → Candidate
-candidateAt cost p q place m = candidateOf (judgeBy cost p q (listed place m))
+candidateAt costs p q place m = candidateOf (judgeBy costs p q (listed place m))
 
 -- y does as well as x: it has x's id, is eligible where x is, and then x does not rank before it in the same place
-pub record AsGood (cost : Cost) (p : PolicySnapshot) (q : KernelInput) (y x : KernelModel) : Type 0 where
+pub record AsGood (costs : Cost) (p : PolicySnapshot) (q : KernelInput) (y x : KernelModel) : Type 0 where
   pub id : y .«model_id» ≡ x .«model_id»
-  pub eligible : Eligible cost p q x → Eligible cost p q y
-  pub notAfter : Eligible cost p q x → (place : ℕ) → better (candidateAt cost p q place x) (candidateAt cost p q place y) ≡ false
+  pub eligible : Eligible costs p q x → Eligible costs p q y
+  pub notAfter : Eligible costs p q x → (place : ℕ) → better (candidateAt costs p q place x) (candidateAt costs p q place y) ≡ false
 
 -- y is x but for what a lever moves, and no field is less favourable: quality and ceiling not lower, latency and prices not higher
 pub record Favours (y x : KernelModel) : Type 0 where
@@ -56,11 +56,11 @@ abbrev pub Ordered : ℕ → Side → Type 0
 Ordered lever side = (m : KernelModel) (u v : ℕ) → AtOrBetter side u v → Favours (leverAt lever v m) (leverAt lever u m)
 
 -- A record of a list is chosen: it is eligible, and no eligible one ranks before it
-pub record Chosen (cost : Cost) (p : PolicySnapshot) (q : KernelInput) (ls : List Listed) (l : Listed) : Type 0 where
+pub record Chosen (costs : Cost) (p : PolicySnapshot) (q : KernelInput) (ls : List Listed) (l : Listed) : Type 0 where
   pub member : List·Memᴰ l ls
-  pub eligible : Eligible cost p q (l .model)
-  pub first : (k : Listed) → List·Memᴰ k ls → Eligible cost p q (k .model)
-      → better (candidateOf (judgeBy cost p q k)) (candidateOf (judgeBy cost p q l)) ≡ false
+  pub eligible : Eligible costs p q (l .model)
+  pub first : (k : Listed) → List·Memᴰ k ls → Eligible costs p q (k .model)
+      → better (candidateOf (judgeBy costs p q k)) (candidateOf (judgeBy costs p q l)) ≡ false
 
 -- No record of a list has an id
 abbrev pub Lacks : ℕ → List Listed → Type 0

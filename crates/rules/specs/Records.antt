@@ -105,7 +105,7 @@ policyWith r s = record {
   rounding = r;
 }
 
--- O2. The policy that 30 bytes say, which rounds apart, no byte being 0; or 31, of which the last says how it rounds
+-- O2. The policy that 30 bytes say, which rounds apart: a byte that isn't there reads as 0. Or 31, of which the last says how it rounds
 unfoldable pub policyOf : List ℕ → PolicySnapshot
 policyOf s = policyWith (roundingOf (numberAt s policyBytes 1)) s
 
