@@ -186,7 +186,8 @@ uint64_t volankizo_read_request(const uint8_t *form, size_t form_len, uint8_t *o
  * from 8 on, in ASCII with a newline after each line and no zero after the last. 848 bytes always suffice. The lines: `decision` and its numbers,
  * `rejected` and the nine counts, both in the order above; for each lever of the margin `lever`, its number, today's value, the boundary, and the
  * cost or `-`. An input that the program refuses is answered too: its text is `refused` and the number, by a form's faults (one or two bytes
- * after the bank are 20 whatever they are, since a request is due), then 19, then as by volankizo_validate, then 3. Refusals: 4. */
+ * after the bank, or after a whole tag 4, are 20 whatever they are, since a request is due), then 19, then as by volankizo_validate, then 3.
+ * Refusals: 4. */
 uint64_t volankizo_unit_text(const uint8_t *input, size_t input_len, uint8_t *out, size_t out_len);
 
 /* The same for what would make a model win, as `ask ID` prints it: `decision`, a `lever` for each that wins by itself, `passes` and their

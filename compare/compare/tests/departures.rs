@@ -99,7 +99,7 @@ fn shows_another_cost(case: &Case) -> bool {
 
 /// The draw of a number by which every policy rounds apart.
 fn apart(number: u64) -> Draw {
-    Draw { policies: Policies::Apart, ..Draw::of(5, number) }
+    Draw::of(Policies::Apart, 5, number)
 }
 
 /// How many answers departed and how many stayed the Rust's.

@@ -2,7 +2,7 @@
 //! as they are allocated, and held against the passes that the second reading counts.
 use compare::calls::{MARGIN, WIN};
 use compare::case::Case;
-use compare::generate::{Asked, Draw, DRAWS, SPACES};
+use compare::generate::{Asked, Draw, Policies, DRAWS, SPACES};
 use compare::second::bytes::{models_of, policy_of, request_of, RECORD_BYTES};
 use compare::second::deciding::Question;
 use compare::second::refusals::{bank, policy_and_request};
@@ -77,7 +77,9 @@ fn the_passes_are_the_rusts_own() {
         (space.each)(&mut |case| asked += check(&case));
     }
     for draws in DRAWS.iter().filter(|draws| searches(&draws.asked)) {
-        asked += (0..20_000).map(|number| check(&(draws.case)(Draw::of(11, number)))).sum::<u64>();
+        for policies in Policies::EACH {
+            asked += (0..20_000).map(|number| check(&(draws.case)(Draw::of(policies, 11, number)))).sum::<u64>();
+        }
     }
     assert!(asked > 40_000, "{asked} searches");
 }

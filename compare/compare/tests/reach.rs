@@ -3,7 +3,7 @@
 use compare::calls::{ASK, CALLS, EXPLAIN, MARGIN, NEXT, TRUST, UNIT, WIN, WORDS, WRITE_STORED};
 use compare::case::Case;
 use compare::figures::{Figures, COUNTS, EXTREMES, KEYS, LEVERS, ROUNDINGS, SEARCHED};
-use compare::generate::{Asked, Draw, DRAWS, SPACES};
+use compare::generate::{Asked, Draw, Policies, DRAWS, SPACES};
 
 fn note(figures: &mut Figures, asked: &Asked, case: &Case) {
     for (at, call) in CALLS.iter().enumerate().filter(|(at, _)| asked.asks(*at, case)) {
@@ -51,6 +51,10 @@ const SENTENCES: [&str; 9] = [
     "The request itself is stoppe",
 ];
 
+fn assert_seen(figures: &Figures, what: &str) {
+    assert!(figures.seen.get(what).is_some_and(|times| *times > 10), "{what}");
+}
+
 fn assert_reached(figures: &Figures) {
     for (call, numbers) in REFUSED.iter().enumerate() {
         for number in *numbers {
@@ -66,10 +70,7 @@ fn assert_reached(figures: &Figures) {
     let counts = COUNTS.iter().map(|count| format!("some rejected for {count}"));
     let keys = KEYS.map(|key| format!("first before second by {key}"));
     let extremes = EXTREMES.iter().map(|(name, _)| format!("some {name}"));
-    let roundings = ROUNDINGS.map(String::from);
-    for what in reasons.chain(counts).chain(keys).chain(extremes).chain(roundings) {
-        assert!(figures.seen.get(&what).is_some_and(|times| *times > 10), "{what}");
-    }
+    reasons.chain(counts).chain(keys).chain(extremes).for_each(|what| assert_seen(figures, &what));
     let gates = (1..=8).map(|gate| (EXPLAIN, format!("some with verdict 1, gate {gate}")));
     let verdicts = (2..=4).map(|verdict| (EXPLAIN, format!("some with verdict {verdict}")));
     let levers = LEVERS.iter().map(|lever| (WIN, format!("lever {lever}")));
@@ -107,6 +108,7 @@ fn the_small_spaces_reach_everything() {
         (space.each)(&mut |case| note(&mut figures, &space.asked, &case));
     }
     assert_reached(&figures);
+    ROUNDINGS.iter().for_each(|what| assert_seen(&figures, what));
     // Only banks of 65,536 records and more; neither a request nor a list is a bank.
     let banks = (0..CALLS.len()).filter(|call| REFUSED[*call].contains(&1));
     assert!(banks.clone().count() == 11 && banks.into_iter().all(|call| figures.refused.contains_key(&(call, 2))));
@@ -114,12 +116,24 @@ fn the_small_spaces_reach_everything() {
     assert!([UNIT, ASK, WORDS].iter().all(|call| figures.found.contains_key(&(*call, "prints refused 19".into()))));
 }
 
-#[test]
-fn random_cases_reach_everything() {
+/// What so many cases of each set reach.
+fn reached(policies: Policies) -> Figures {
     let mut figures = Figures::default();
     for draws in &DRAWS {
         (0..20_000 * draws.share.max(20) / 100)
-            .for_each(|number| note(&mut figures, &draws.asked, &(draws.case)(Draw::of(7, number))));
+            .for_each(|number| note(&mut figures, &draws.asked, &(draws.case)(Draw::of(policies, 7, number))));
     }
+    figures
+}
+
+#[test]
+fn random_cases_that_round_apart_reach_everything_else() {
+    assert_reached(&reached(Policies::Apart));
+}
+
+#[test]
+fn random_cases_that_round_either_way_reach_everything() {
+    let figures = reached(Policies::Both);
     assert_reached(&figures);
+    ROUNDINGS.iter().for_each(|what| assert_seen(&figures, what));
 }

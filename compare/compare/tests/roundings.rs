@@ -1,4 +1,5 @@
-//! The worked rows on rounding once, as `crates/rules/proofs/RoundingRows.antt` has them: the second reading gives the same answers.
+//! The worked rows on rounding once: those of `costRows` in `crates/rules/proofs/OnceRows.antt` and all of `crates/rows/proofs/RoundingRows.antt`, by
+//! their names and in their order. The second reading comes to the same answers by itself.
 use compare::calls::{
     Answer, ASK, CALLS, EXPLAIN, MARGIN, PRESCRIBE, READ_STORED, UNIT, UTILITY, VALIDATE, WIN, WORDS, WRITE_STORED,
 };
@@ -6,12 +7,13 @@ use compare::case::{Case, Formed, Room};
 use compare::generate::example::example;
 use compare::generate::roundings::once;
 use compare::generate::Setting;
+use compare::second::bytes::{long_policy_bytes, policy_of, Policy};
 use compare::second::price::{billed, cost};
 use compare::second::rules::Rounding::{self, Apart, Once};
+use oracle::kernel::KernelModel;
 
 const BOTH: [Rounding; 2] = [Apart, Once];
 const HELD: u64 = u64::MAX;
-const MILLION: u128 = 1_000_000;
 
 /// The example's first model alone with two prices, and a request for so many tokens each way.
 fn at(prices: (u64, u64), tokens: (u32, u32)) -> Setting {
@@ -46,20 +48,34 @@ fn the_cost_at_its_edges() {
 #[test]
 fn the_cost_where_it_is_held() {
     assert_eq!(both_costs(1_000_000, HELD - 1, 0, 0), [HELD - 1; 2], "a rounded sum of 2^64 - 2");
-    assert_eq!(both_costs(1_000_000, HELD - 1, 2, 1), [HELD; 2], "2^64 - 1, where apart is held");
-    let products = |output: u128| BOTH.map(|rounding| billed(rounding, u128::from(HELD - 1) * MILLION + 1, output));
-    assert_eq!(products(999_999), [1 << 64, HELD.into()], "2^64 - 1 once, and 2^64 apart");
-    assert_eq!(products(1_000_000)[1], 1 << 64, "2^64 once");
+    assert_eq!(both_costs(1_000_000, HELD - 1, 2, 1), [HELD; 2], "2^64 - 1 both ways");
+    let one_more = both_costs(999_999, HELD - 1, 1, HELD - 1);
+    assert_eq!(one_more, [HELD, HELD - 1], "a rounded sum of 2^64 - 2, and one more apart");
+    let held = u128::from(HELD);
+    let products = BOTH.map(|rounding| billed(rounding, 999_999 * held, held));
+    assert_eq!(products, [1 << 64, held], "2^64 - 1 once, and 2^64 apart");
+    assert_eq!(both_costs(999_999, HELD, 1, HELD), [HELD; 2], "which is held");
+    assert_eq!(billed(Once, 1_000_000 * held, 1), 1 << 64, "2^64 once");
     assert_eq!(both_costs(1_000_000, HELD, 1, 1), [HELD; 2], "2^64 is held");
     assert_eq!(both_costs(u32::MAX, u64::MAX, u32::MAX, u64::MAX), [HELD; 2], "the highest of all");
 }
 
 // ---- what follows the cost
 
-/// A call on a setting whose policy rounds apart, and whose policy rounds once.
-fn both(call: usize, setting: &Setting) -> [Answer; 2] {
-    let case = setting.case(1);
+/// A call on a setting whose policy rounds apart, and whose policy rounds once, about this model.
+fn both_about(id: u32, call: usize, setting: &Setting) -> [Answer; 2] {
+    let case = setting.case(id);
     [case.clone(), once(case)].map(|case| CALLS[call].owed_on(&case))
+}
+
+/// The same about model 1.
+fn both(call: usize, setting: &Setting) -> [Answer; 2] {
+    both_about(1, call, setting)
+}
+
+/// What is decided apart, and what once.
+fn decided(setting: &Setting) -> [Vec<u8>; 2] {
+    both(PRESCRIBE, setting).map(|answer| answer.out)
 }
 
 /// Numbers of these widths, lowest byte first.
@@ -72,36 +88,72 @@ fn decision(numbers: [u64; 13]) -> Vec<u8> {
     packed(&numbers, &[8, 1, 2, 4, 2, 8, 8, 4, 8, 2, 2, 8, 8])
 }
 
-const CHOICE: [u64; 13] = [42, 2, 2, 2, 1, 300, 6_200, 1, 5_200, 2, 2, 7, 3];
-/// The first model alone, where it costs 1.
-const FIRST: [u64; 13] = [42, 1, 1, 1, 0, 1, 6_999, 0, 0, 1, 1, 7, 3];
-
-fn counted(numbers: [u64; 13], over_budget: u8) -> Vec<u8> {
-    let mut counts = [0; 18];
-    counts[14] = over_budget;
-    [decision(numbers), counts.to_vec()].concat()
+/// A decision and its nine counts.
+fn counted(numbers: [u64; 13], counts: [u64; 9]) -> Vec<u8> {
+    [decision(numbers), packed(&counts, &[2; 9])].concat()
 }
 
+const CHOICE: [u64; 13] = [42, 2, 2, 2, 1, 300, 6_200, 1, 5_200, 2, 2, 7, 3];
+const NO_COUNTS: [u64; 9] = [0; 9];
+
+/// The first model alone, where it costs 1.
+fn first(utility: u64) -> Vec<u8> {
+    counted([42, 1, 1, 1, 0, 1, utility, 0, 0, 1, 1, 7, 3], NO_COUNTS)
+}
+
+/// One model that is rejected for this reason.
+fn rejected(reason: u64) -> [u64; 13] {
+    [42, 3, reason, 0, 65_535, 0, 0, 0, 0, 1, 0, 7, 3]
+}
+
+/// Two models that cost 2 apart, of which the second costs 1 once.
+fn two() -> Setting {
+    let mut setting = at((1_000_000, 1_000_000), (1, 1));
+    setting.models.push(KernelModel { model_id: 2, ..at((1, 1), (1, 1)).models[0] });
+    setting
+}
+
+/// The first of them chosen, and the second.
+const FIRST_OF_TWO: [u64; 13] = [42, 1, 1, 1, 0, 2, 6_998, 2, 6_998, 2, 2, 7, 3];
+const SECOND_OF_TWO: [u64; 13] = [42, 2, 2, 2, 1, 1, 6_999, 1, 6_998, 2, 2, 7, 3];
+
 #[test]
-fn what_follows_the_cost() {
-    let mut one_each = at((1, 1), (1, 1));
-    assert_eq!(both(PRESCRIBE, &one_each)[1].out, counted(FIRST, 0), "(G) once: cost 1");
+fn decisions() {
+    let one_each = at((1, 1), (1, 1));
+    assert_eq!(decided(&one_each)[1], first(6_999), "(G) once: cost 1");
+
+    let mut budget = one_each.clone();
+    budget.request.budget_limit_microunits = 1;
+    let [apart, owed] = decided(&budget);
+    let over = counted(rejected(108), [0, 0, 0, 0, 0, 0, 0, 1, 0]);
+    assert_eq!(apart, over, "(G) with a budget of 1: over it apart");
+    assert_eq!(owed, first(6_999), "and within it once");
+    let mut said = budget.case(1);
+    said.policy.push(0);
+    assert_eq!(CALLS[PRESCRIBE].owed_on(&said).out, over, "a 31st byte of 0: apart");
+
     let utilities = both(UTILITY, &one_each).map(|answer| answer.out);
     assert_eq!(utilities, [6_998_u64, 6_999].map(|utility| utility.to_le_bytes().to_vec()), "the utility of one model");
-    assert_eq!(both(EXPLAIN, &one_each).map(|answer| answer.list[40]), [2, 1], "the cost that is explained");
+    let [apart, owed] = both(UTILITY, &budget);
+    let found = 6_999_u64.to_le_bytes().to_vec();
+    assert_eq!((apart.word(), owed.out), (7, found), "the utility of one model, by a budget of 1");
+    let costs = both(EXPLAIN, &one_each).map(|answer| answer.list[40..48].to_vec());
+    assert_eq!(costs, [2_u64, 1].map(|cost| cost.to_le_bytes().to_vec()), "the cost that is explained");
+    budget.request.budget_limit_microunits = 0;
+    let costs = both(EXPLAIN, &budget).map(|answer| answer.list[8..24].to_vec());
+    assert_eq!(costs, [2_u128, 1].map(|cost| cost.to_le_bytes().to_vec()), "the cost that is over a budget of 0");
 
-    one_each.request.budget_limit_microunits = 1;
-    let rejected = counted([42, 3, 108, 0, 65_535, 0, 0, 0, 0, 1, 0, 7, 3], 1);
-    let owed = both(PRESCRIBE, &one_each).map(|answer| answer.out);
-    assert_eq!(
-        owed,
-        [rejected.clone(), counted(FIRST, 0)],
-        "(G) with a budget of 1: over it apart, and within it once"
-    );
-    let mut case = one_each.case(1);
-    case.policy.push(0);
-    assert_eq!(CALLS[PRESCRIBE].owed_on(&case).out, rejected, "a 31st byte of 0: apart");
-    assert_eq!(both(PRESCRIBE, &example())[1].out, counted(CHOICE, 0), "(A) once: nothing changes");
+    let mut worth = one_each.clone();
+    worth.request.business_value_microunits = 1_253;
+    let [apart, owed] = decided(&worth);
+    assert_eq!(apart, counted(rejected(109), [0, 0, 0, 0, 0, 0, 0, 0, 1]), "a utility of 0 apart");
+    assert_eq!(owed, first(1), "and of 1 once");
+
+    let [apart, owed] = decided(&two());
+    assert_eq!(apart, counted(FIRST_OF_TWO, NO_COUNTS), "the first of two apart");
+    assert_eq!(owed, counted(SECOND_OF_TWO, NO_COUNTS), "and the second once");
+    let whole = counted(CHOICE, NO_COUNTS);
+    assert_eq!(decided(&example())[1], whole, "(A) once: every product is whole, and nothing changes");
 }
 
 /// The answer of a search with these levers.
@@ -111,6 +163,59 @@ fn bounded(opening: [u64; 13], model: u64, passes: u64, levers: &[[u64; 5]]) -> 
     levers.iter().for_each(|lever| out.extend(packed(lever, &[1, 8, 8, 1, 8])));
     out.resize(183, 0);
     out
+}
+
+/// One model that only once is within its budget.
+fn budgets() {
+    let mut budget = at((1, 1), (1, 1));
+    budget.request.budget_limit_microunits = 1;
+    let chosen = [42, 1, 1, 1, 0, 1, 6_999, 0, 0, 1, 1, 7, 3];
+    let [apart, owed] = both(MARGIN, &budget);
+    assert_eq!(apart.word(), 6, "(G) with a budget of 1, apart: nothing is chosen, 6");
+    let levers = [[1, 9_000, 5_000, 0, 0], [2, 100, 799, 0, 0], [4, 8_000, 1_000, 0, 0]];
+    assert_eq!(owed.out, bounded(chosen, 1, 64, &levers), "(G) with a budget of 1, once: its margin");
+    let [apart, owed] = both(WIN, &budget);
+    let price = [3, 1_000_000, 999_999, 1, 0];
+    assert_eq!(apart.out, bounded(rejected(108), 1, 26, &[price]), "(G) with a budget of 1, apart: its price must fall");
+    assert_eq!(owed.out, bounded(chosen, 1, 1, &[]), "(G) with a budget of 1, once: chosen already");
+}
+
+/// Two models, of which the first is chosen apart, and the second once.
+fn pairs() {
+    let [apart, owed] = both_about(2, WIN, &two());
+    let levers = [[1, 9_000, 9_001, 0, 0], [2, 100, 99, 0, 0], [3, 1_000_000, 999_999, 1, 0]];
+    let expected = bounded(FIRST_OF_TWO, 2, 43, &levers);
+    assert_eq!(apart.out, expected, "two that cost 2, apart: what would make the second win");
+    assert_eq!(owed.out, bounded(SECOND_OF_TWO, 2, 1, &[]), "two, once: the second is chosen already");
+
+    let [apart, owed] = both(WIN, &two());
+    assert_eq!(apart.out, bounded(FIRST_OF_TWO, 1, 1, &[]), "two, apart: the first is chosen already");
+    let levers = [[1, 9_000, 9_002, 0, 0], [2, 100, 99, 0, 0], [3, 1_000_000, 500_000, 1, 1]];
+    assert_eq!(owed.out, bounded(SECOND_OF_TWO, 1, 42, &levers), "two, once: what would make the first win");
+
+    let [apart, owed] = both(MARGIN, &two());
+    let levers =
+        [[1, 9_000, 9_000, 0, 0], [2, 100, 100, 0, 0], [3, 1_000_000, 1_000_000, 1, 2], [4, 8_000, 1_000, 0, 0]];
+    assert_eq!(apart.out, bounded(FIRST_OF_TWO, 1, 94, &levers), "two, apart: the first one's margin");
+    let levers = [[1, 9_000, 8_999, 0, 0], [2, 100, 100, 0, 0], [4, 8_000, 1_000, 0, 0]];
+    assert_eq!(owed.out, bounded(SECOND_OF_TWO, 2, 63, &levers), "two, once: the second one's margin");
+
+    let mut off = two();
+    off.models[0].enabled = 0;
+    let [apart, owed] = both(WIN, &off);
+    let left = [42, 2, 2, 2, 1, 2, 6_998, 0, 0, 2, 1, 7, 3];
+    let on = bounded(left, 1, 2, &[[5, 0, 1, 0, 0]]);
+    assert_eq!(apart.out, on, "two, the first switched off, apart: switched on, it would win");
+    let left = [42, 2, 2, 2, 1, 1, 6_999, 0, 0, 2, 1, 7, 3];
+    assert_eq!(owed.out, bounded(left, 1, 2, &[]), "two, the first switched off, once: it would not");
+
+    let mut low = two();
+    low.models[1].risk_ceiling_bps = 900;
+    let [apart, owed] = both_about(2, WIN, &low);
+    let left = [42, 1, 1, 1, 0, 2, 6_998, 0, 0, 2, 1, 7, 3];
+    let nothing = bounded(left, 2, 5, &[]);
+    assert_eq!(apart.out, nothing, "two, the second with a ceiling below the risk, apart: no ceiling makes it win");
+    assert_eq!(owed.out, bounded(left, 2, 19, &[[4, 900, 1_000, 0, 0]]), "two, the second with a ceiling below the risk, once: 1,000 does");
 }
 
 #[test]
@@ -123,30 +228,47 @@ fn boundaries() {
         [[1, 8_000, 7_000, 0, 0], [2, 50, 150, 0, 0], [3, 1_000_000, 4_333_333, 1, 1_300], [4, 8_000, 1_000, 0, 0]];
     assert_eq!(owed, bounded(CHOICE, 2, 95, &levers), "(C) once: 300 times the scale by 10^6, at most 1,300");
 
+    budgets();
+    pairs();
+
     // At 999,999 millionths both prices of 1 are rounded down to 0, before anything is added.
     let mut scaled = at((1, 1), (1_000_000, 1_000_000));
     scaled.request.budget_limit_microunits = 1;
-    let rejected = [42, 3, 108, 0, 65_535, 0, 0, 0, 0, 1, 0, 7, 3];
     let owed = both(WIN, &scaled)[1].out.clone();
-    assert_eq!(owed, bounded(rejected, 1, 26, &[[3, 1_000_000, 999_999, 1, 0]]), "each scaled price by itself");
+    let price = [3, 1_000_000, 999_999, 1, 0];
+    assert_eq!(owed, bounded(rejected(108), 1, 26, &[price]), "each scaled price is rounded down by itself");
 }
 
 // ---- a policy's bytes
 
+/// The example's policy with these bytes after its numbers.
+fn policy(after: &[u8]) -> Vec<u8> {
+    [&example().case(1).policy[..], after].concat()
+}
+
+/// The policy that a call reads, or with which number it refuses.
+fn read_policy(bytes: &[u8]) -> Result<Policy, u64> {
+    let case = Case { policy: bytes.to_vec(), ..example().case(1) };
+    match CALLS[VALIDATE].owed_on(&case).word() {
+        0 => Ok(policy_of(bytes)),
+        number => Err(number),
+    }
+}
+
 #[test]
 fn a_policys_bytes() {
-    let number = |change: fn(&mut Vec<u8>)| {
-        let mut case = example().case(1);
-        change(&mut case.policy);
-        CALLS[VALIDATE].owed_on(&case).word()
-    };
-    assert_eq!(number(|_| {}), 0, "30 bytes");
-    assert_eq!(number(|policy| policy.truncate(29)), 22, "29 bytes");
-    assert_eq!(number(|policy| policy.extend([2, 0])), 22, "32 bytes: 22, before 23");
-    assert_eq!(number(|policy| policy.push(0)), 0, "a 31st byte of 0");
-    assert_eq!(number(|policy| policy.push(1)), 0, "and of 1");
-    assert_eq!(number(|policy| policy.push(2)), 23, "and of 2");
-    assert_eq!(number(|policy| policy.push(255)), 23, "and of 255");
+    let apart = example().policy;
+    assert_eq!(read_policy(&policy(&[])), Ok(apart), "30 bytes");
+    assert_eq!(read_policy(&[0; 29]), Err(22), "29 bytes: 22");
+    assert_eq!(read_policy(&[]), Err(22), "no byte: 22");
+    assert_eq!(read_policy(&policy(&[2, 0])), Err(22), "32 bytes: 22, before 23");
+    assert_eq!(read_policy(&policy(&[0])), Ok(apart), "a 31st byte of 0 is that of 30");
+    assert_eq!(read_policy(&policy(&[1])), Ok(Policy { rounding: Once, ..apart }), "and of 1");
+    assert_eq!(read_policy(&policy(&[2])), Err(23), "and of 2: 23");
+    assert_eq!(read_policy(&policy(&[255])), Err(23), "and of 255: 23");
+    let roundings = [&[][..], &[0], &[1]].map(|after| policy_of(&policy(after)).rounding);
+    assert_eq!(roundings, [Apart, Apart, Once], "how they round");
+    assert_eq!(long_policy_bytes(&policy_of(&policy(&[1]))), policy(&[1]), "handed back: 31 bytes");
 }
 
 // ---- stored forms
@@ -160,94 +282,136 @@ fn fields() -> (Vec<u8>, Vec<u8>) {
     ([field(1, &case.policy), field(2, &case.bank)].concat(), field(3, &case.request))
 }
 
+/// The stored form and these bytes after it.
+fn form(after: &[u8]) -> Vec<u8> {
+    [&fields().0, after].concat()
+}
+
+/// So many bytes of 255 with these written to the start.
+fn lent(bytes: usize, written: &[u8]) -> Vec<u8> {
+    [written, &vec![255; bytes - written.len()]].concat()
+}
+
+/// The word handed back for a policy of these bytes that is written with the example's bank, and the buffer.
+fn written(policy: Vec<u8>, room: Room) -> (u64, Vec<u8>) {
+    let case = Case { policy, room, ..example().case(1) };
+    let owed = CALLS[WRITE_STORED].owed_on(&case);
+    (owed.word(), lent(CALLS[WRITE_STORED].ask(&case).room, &owed.out))
+}
+
 #[test]
 fn forms_that_are_written() {
-    let (form, _) = fields();
-    let [apart, owed] = both(WRITE_STORED, &example()).map(|answer| answer.out);
-    assert_eq!(owed, [&form[..], &ROUNDING].concat(), "once: four bytes more");
-    assert_eq!(apart, form);
-    let short = Case { room: Room::ShortBy(1), ..once(example().case(1)) };
-    assert_eq!(CALLS[WRITE_STORED].ask(&short).room, 133);
-    assert_eq!(CALLS[WRITE_STORED].owed_on(&short).word(), 4, "one byte is missing for them");
-    let mut said = example().case(1);
-    said.policy.push(0);
-    assert_eq!(CALLS[WRITE_STORED].owed_on(&said).out, form, "apart, said by a 31st byte: no tag 4");
+    let longer = written(policy(&[1]), Room::LongerBy(1));
+    assert_eq!(longer, (0, lent(135, &form(&ROUNDING))), "once, written: four bytes more");
+    let exact = written(policy(&[1]), Room::Exact);
+    assert_eq!(exact, (0, lent(134, &form(&ROUNDING))), "once, into just the room that it needs");
+    let short = written(policy(&[1]), Room::ShortBy(1));
+    assert_eq!(short, (4, lent(133, &[])), "one byte is missing for them: 4");
+    let said = written(policy(&[0]), Room::Exact);
+    assert_eq!(said, (0, lent(130, &form(&[]))), "apart, said by a 31st byte: no tag 4");
 }
+
+/// The bytes of the example's models, and of the field before theirs.
+const MODELS: usize = 94;
+const POLICY_FIELD: usize = 33;
 
 /// What is owed for a form of these bytes.
 fn read(call: usize, form: &[u8], list_room: Room) -> Answer {
     CALLS[call].owed_on(&Case { formed: Formed::Bytes(form.to_vec()), list_room, ..example().case(1) })
 }
 
+/// A form read into so many bytes for its models: the word handed back, the policy with their size, and those bytes.
+fn stored(form: &[u8], bytes: usize) -> (u64, Vec<u8>, Vec<u8>) {
+    let room = if bytes < MODELS { Room::ShortBy(MODELS - bytes) } else { Room::LongerBy(bytes - MODELS) };
+    let owed = read(READ_STORED, form, room);
+    (owed.word(), owed.out.clone(), lent(bytes, &owed.list))
+}
+
+/// A refusal that leaves so many bytes.
+fn unread(number: u64, bytes: usize) -> (u64, Vec<u8>, Vec<u8>) {
+    (number, Vec::new(), lent(bytes, &[]))
+}
+
 #[test]
 fn forms_that_are_read() {
-    let (form, _) = fields();
-    let (policy, bank) = (example().case(1).policy, example().case(1).bank);
-    for (rounding, after) in [(0, &[][..]), (1, &ROUNDING)] {
-        let owed = read(READ_STORED, &[&form[..], after].concat(), Room::LongerBy(1));
-        assert_eq!(owed.out, [&policy[..], &[rounding], &94_u64.to_le_bytes()].concat());
-        assert_eq!(owed.list, bank);
-    }
-    let number = |after: &[u8]| read(READ_STORED, &[&form[..], after].concat(), Room::Exact).word();
-    let none = read(READ_STORED, &[&form[..], &[4, 1, 0, 0]].concat(), Room::ShortBy(94));
-    assert_eq!(none.word(), 23, "23 before 4");
-    assert_eq!(number(&[4]), 20, "a byte 4 alone begins a field");
-    assert_eq!(number(&[5]), 21, "any other byte is one after the end");
-    assert_eq!(number(&[4, 1, 0]), 20, "a header without its body");
-    assert_eq!(number(&[4, 2, 0, 1]), 22, "another length: 22, before 20");
-    assert_eq!(number(&[4, 0, 0]), 22, "no body");
-    assert_eq!(number(&[4, 2, 0, 0, 0]), 22, "another length and another body: 22, before 23");
-    assert_eq!(number(&[&[4, 1, 1][..], &[1; 257]].concat()), 22, "a length of 257");
-    assert_eq!(number(&[4, 1, 0, 0]), 23, "a body of 0");
-    assert_eq!(number(&[4, 1, 0, 2]), 23, "a body of 2");
-    assert_eq!(number(&[4, 1, 0, 0, 0]), 23, "a body of 0, then a byte: 23, before 21");
-    assert_eq!(number(&[ROUNDING, ROUNDING].concat()), 21, "tag 4 twice");
-    let before = [&form[..33], &ROUNDING, &form[33..]].concat();
-    assert_eq!(read(READ_STORED, &before, Room::Exact).word(), 21, "tag 4 before the catalogue");
-    let long = [&[1, 31, 0][..], &policy, &[1], &form[33..]].concat();
-    assert_eq!(read(READ_STORED, &long, Room::Exact).word(), 22, "a policy of 31 bytes in tag 1");
+    let models = example().case(1).bank;
+    let owed = (0, [policy(&[1]), (MODELS as u64).to_le_bytes().to_vec()].concat(), lent(95, &models));
+    assert_eq!(stored(&form(&ROUNDING), 95), owed, "once, read");
+    let missing = stored(&form(&ROUNDING), 93);
+    assert_eq!(missing, unread(4, 93), "once, one byte is missing for the models: 4");
+    assert_eq!(stored(&form(&[4, 1]), 0), unread(20, 0), "20 before 4");
+    assert_eq!(stored(&form(&[4, 1, 0, 0]), 0), unread(23, 0), "23 before 4");
+
+    let (marked, unread) = (|after: &[u8]| stored(&form(after), 100), |number: u64| unread(number, 100));
+    assert_eq!(marked(&[4]), unread(20), "a byte 4 alone begins a field: 20");
+    assert_eq!(marked(&[3]), unread(21), "any other byte is one after the end: 21");
+    assert_eq!(marked(&[4, 1, 0]), unread(20), "a header without its body: 20");
+    assert_eq!(marked(&[4, 2, 0, 1]), unread(22), "another length: 22, before 20");
+    assert_eq!(marked(&[4, 0, 0]), unread(22), "no body: 22");
+    assert_eq!(marked(&[4, 2, 0, 0, 0]), unread(22), "another length and another body: 22, before 23");
+    assert_eq!(marked(&[&[4, 1, 1][..], &[1; 257]].concat()), unread(22), "a length of 257: 22");
+    assert_eq!(marked(&[4, 1, 0, 0]), unread(23), "a body of 0: 23");
+    assert_eq!(marked(&[4, 1, 0, 2]), unread(23), "a body of 2: 23");
+    assert_eq!(marked(&[4, 1, 0, 0, 0]), unread(23), "a body of 0, then a byte: 23, before 21");
+    assert_eq!(marked(&[ROUNDING, ROUNDING].concat()), unread(21), "tag 4 twice: 21");
+    assert_eq!(marked(&[&ROUNDING[..], &[4]].concat()), unread(21), "and a byte 4 after a whole one: 21");
+    let whole = form(&[]);
+    let (numbers, bank) = whole.split_at(POLICY_FIELD);
+    let early = stored(&[numbers, &ROUNDING, bank].concat(), 100);
+    assert_eq!(early, unread(21), "tag 4 before the catalogue: 21");
+    let long = stored(&[&[1, 31, 0][..], &policy(&[1]), bank].concat(), 100);
+    assert_eq!(long, unread(22), "a policy of 31 bytes in tag 1: 22");
 }
 
 // ---- the programs
 
-/// What a call prints for the example's stored form and these bytes after it.
-fn printed(call: usize, after: &[&[u8]]) -> String {
-    let owed = read(call, &[fields().0, after.concat()].concat(), Room::Exact);
-    String::from_utf8(owed.out[8..].to_vec()).expect("text")
+/// What a call prints for an input.
+fn printed(call: usize, input: &[&[u8]]) -> String {
+    String::from_utf8(read(call, &input.concat(), Room::Exact).out[8..].to_vec()).expect("text")
 }
 
 #[test]
 fn what_is_printed() {
-    let request = &fields().1[..];
+    let (form, request) = fields();
+    let input = [&form[..], &ROUNDING, &request];
     let decision = "decision 42 2 2 2 1 300 6200 1 5200 2 2 7 3\n";
     let lines = "rejected 0 0 0 0 0 0 0 0 0\nlever 1 8000 7000 -\nlever 2 50 150 -\nlever 3 1000000 4333333 1300\n\
                  lever 4 8000 1000 -\n";
-    assert_eq!(printed(UNIT, &[&ROUNDING, request]), [decision, lines].concat(), "the example once");
+    assert_eq!(printed(UNIT, &input), [decision, lines].concat(), "the example once");
     let lines = [decision, "lever 3 1000000 443888 799\npasses 26\n"].concat();
-    assert_eq!(printed(ASK, &[&ROUNDING, request]), lines, "asked at the desk, once");
+    assert_eq!(printed(ASK, &input), lines, "asked at the desk, once");
     let words = "Price: 100 percent today; it must fall by at least 55.6112 percent, to 44.3888 percent; the request then costs \
                  799 microunits.\n";
-    assert_eq!(printed(WORDS, &[&ROUNDING, request]), words, "in words, once");
+    assert_eq!(printed(WORDS, &input), words, "in words, once");
 }
 
+/// The rows have these of the unit's program; here all three are asked. Of the other two the rows have the first: "asked at the desk: 23", and "in
+/// words: 23".
 #[test]
 fn inputs_that_are_refused() {
-    let request = &fields().1[..];
+    let (form, request) = fields();
+    let (form, request) = (&form[..], &request[..]);
+    let (numbers, bank) = form.split_at(POLICY_FIELD);
     for call in [UNIT, ASK, WORDS] {
-        let refused = |after: &[&[u8]]| printed(call, after);
-        assert_eq!(refused(&[&[4, 1, 0, 0], request]), "refused 23\n", "a body of 0");
-        assert_eq!(refused(&[&[4, 0, 0], request]), "refused 22\n", "no body");
-        assert_eq!(refused(&[&[4]]), "refused 20\n", "a byte 4 at the end");
-        assert_eq!(refused(&[&[9]]), "refused 20\n", "as any byte where the request is due");
-        assert_eq!(refused(&[&[4, 1, 0]]), "refused 20\n", "a header of tag 4 at the end");
-        assert_eq!(refused(&[&ROUNDING]), "refused 21\n", "no request after it");
-        assert_eq!(refused(&[&ROUNDING, &ROUNDING, request]), "refused 21\n", "twice");
-        assert_eq!(refused(&[request, &ROUNDING]), "refused 21\n", "after the request");
-        let empty = |rounding: &[u8]| {
-            let form = [&fields().0[..33], &[2, 0, 0], rounding, request].concat();
-            String::from_utf8(read(call, &form, Room::Exact).out[8..].to_vec()).expect("text")
+        let refused = |number: u8, input: &[&[u8]], row: &str| {
+            assert_eq!(printed(call, input), format!("refused {number}\n"), "{row}, {}", CALLS[call].name);
         };
-        assert_eq!(empty(&[4, 1, 0, 2]), "refused 23\n", "23 before validation");
-        assert_eq!(empty(&ROUNDING), "refused 11\n", "once, and no models");
+        refused(23, &[form, &[4, 1, 0, 0], request], "a body of 0: 23");
+        refused(22, &[form, &[4, 0, 0], request], "no body: 22");
+        refused(23, &[form, &[4, 1, 0, 0]], "a body of 0, then nothing: 23");
+        refused(22, &[form, &[4, 2, 0]], "a length of 2, then nothing: 22");
+        refused(23, &[form, &[4, 1, 0, 0, 3]], "a body of 0, then a cut request: 23");
+        refused(20, &[form, &[5, 0]], "two bytes of another tag: 20");
+        refused(21, &[form, &[5, 0, 0]], "three: 21");
+        refused(20, &[form, &ROUNDING, &[4]], "a byte 4 after a whole tag 4: 20");
+        refused(21, &[numbers, &ROUNDING, bank, request], "tag 4 before the catalogue: 21");
+        refused(20, &[form, &[4]], "a byte 4 at the end: 20, as any byte where the request is due");
+        refused(20, &[form, &[9]], "any byte where the request is due: 20");
+        refused(20, &[form, &[4, 1, 0]], "a header of tag 4 at the end: 20");
+        refused(21, &[form, &ROUNDING], "no request after it: 21");
+        refused(21, &[form, &ROUNDING, &ROUNDING, request], "twice: 21");
+        refused(21, &[form, request, &ROUNDING], "after the request: 21");
+        refused(23, &[numbers, &[2, 0, 0], &[4, 1, 0, 2], request], "23 before validation");
+        refused(11, &[numbers, &[2, 0, 0], &ROUNDING, request], "once, and no models: 11");
     }
 }

@@ -15,7 +15,7 @@ pub mod unchecked;
 
 pub use unpacking::input_from;
 pub use unpacking::model_from;
-pub use unpacking::policy_from;
+pub use unpacking_policy::policy_from;
 
 // Whether the record at a place can be read, and if not, why: 1, 2 or 8, in this order.
 pub fn reading(bank: &[u8], place: usize) -> Outcome

@@ -8,7 +8,7 @@ use crate::tally::Seen;
 use crate::tally::judged;
 use crate::texts::is_example;
 use crate::texts::told;
-use endian::put16;
+use endian_writing::put16;
 
 pub(crate) const LIMITS: usize = 10;
 

@@ -18,7 +18,7 @@ use crate::faults::number_for;
 use crate::tally::Seen;
 use crate::tally::judged;
 use crate::texts::prints;
-use endian::put16;
+use endian_writing::put16;
 
 // 901 models, the request, and one byte more.
 const SPACE: usize = 42_457;

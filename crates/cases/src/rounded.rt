@@ -20,7 +20,7 @@ use crate::reading::reads_stored;
 use crate::tally::Seen;
 use crate::tally::judged;
 use crate::texts::is_example;
-use endian::put16;
+use endian_writing::put16;
 
 // Room for every input that is made here.
 const SPACE: usize = 600;

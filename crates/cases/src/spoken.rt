@@ -5,7 +5,7 @@ use crate::answers::answers_each;
 use crate::example::example;
 use crate::tally::Seen;
 use crate::tally::judged;
-use endian::put16;
+use endian_writing::put16;
 
 pub(crate) const SENTENCES: usize = 10;
 

@@ -1,14 +1,10 @@
--- ANY TWO PERMITTED ANSWERS ARE EQUAL, for each call that a user makes: what is told has a way back, and the bank at exit is the rule's.
--- Assumes nothing.
+-- ANY TWO PERMITTED ANSWERS ARE EQUAL: what is told has a way back, and the bank at exit is the rule's. Assumes nothing.
 use Rattle.rules.proofs.Kit.{ℕ, List, _≡_, sym, _∙_}
-use Rattle.rules.specs.{Refused.toldOutcome, Refused.toldTrusted, Validate.validateOf, Trust.trustOf, Trust.trustBank, declared.refusal.Outcome.Outcome}
-use Rattle.rules.specs.{declared.refusal.Trusted.Trusted, declared.records.PolicySnapshot.PolicySnapshot}
-use Rattle.rules.proofs.Told.{one-outcome, one-trusted}
+use Rattle.rules.specs.{Refused.toldTrusted, Trust.trustOf, Trust.trustBank, declared.refusal.Trusted.Trusted}
+use Rattle.rules.specs.{declared.records.PolicySnapshot.PolicySnapshot}
+use Rattle.rules.proofs.Told.{one-trusted}
 
 module _ (p : PolicySnapshot) (bank : List ℕ) where
-  pub one-validate : (r s : Outcome) → toldOutcome r ≡ validateOf p bank → toldOutcome s ≡ validateOf p bank → r ≡ s
-  one-validate = one-outcome _
-
   -- what `trust` promises of its answer and of the bank at exit
   abbrev pub Permitted : Trusted → List ℕ → Type 0
   Permitted r exit = (toldTrusted r ≡ trustOf p bank) × (exit ≡ trustBank bank)

@@ -1,7 +1,5 @@
-// What a policy and its catalogue must keep to before they serve. Those passed on here ask nothing of their caller, and neither does the rest
-// of `validation`, which is for other crates.
+// What a policy and its catalogue must keep to before they serve. Those passed on here ask nothing of their caller.
 mod loading;
-pub mod validation;
 
+pub use catalogue_validation::validate;
 pub use loading::trust;
-pub use validation::validate;

@@ -1,3 +1,3 @@
--- The laws of room for levers, and of four levers noted in it, which callers cite.
+-- The laws of room for levers, of four levers noted in it, and of an answer by its parts, which callers cite.
 pub mod Rooms
 pub mod Notes

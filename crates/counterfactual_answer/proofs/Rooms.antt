@@ -1,10 +1,11 @@
--- Laws of room for four levers: what goes into it stands there in its order, with nothing after it. Assumes nothing.
+-- Laws of room for four levers: what goes into it stands there in its order, with nothing after it; and the answer with such a room. Assumes
+-- nothing.
 use Rattle.rules.proofs.Kit.{ℕ, zero, suc, _+_, _-_, _<_, _≤_, decLt, arith, _≡_, refl, sym, ap, ap₂, _∙_, List, [], _∷_, _++_, map, append-nil, append-assoc}
-use Rattle.rules.proofs.Kit.{length, set, replicate, length-append}
-use Rattle.rules.specs.{Numbers.Entry, Numbers.toldEntry, Levers.Sought, Levers.noEntry, Levers.noSearch, Levers.andThen}
-use Rattle.rules.specs.{declared.boundary.Requirement.Requirement, declared.boundary.Levers.Levers}
+use Rattle.rules.proofs.Kit.{Bool, length, set, replicate, length-append}
+use Rattle.rules.specs.{Refused.noFault, Numbers.Entry, Numbers.toldEntry, Numbers.Decision, Numbers.Boundary, Levers.Sought, Levers.noEntry, Levers.noSearch}
+use Rattle.rules.specs.{Levers.andThen, Levers.boundaryOf, declared.boundary.Requirement.Requirement, declared.boundary.Levers.Levers}
 use Rattle.rules.proofs.Choices.{below-yes, below-no}
-use Rattle.counterfactual_answer.specs.Levers.{LeverRooms, toldLevers, pushed, passed, allPushed, roomsJoined, roomOf}
+use Rattle.counterfactual_answer.specs.Levers.{LeverRooms, toldLevers, pushed, passed, allPushed, roomsJoined, roomOf, boundaryWith}
 
 -- ---- one lever more
 
@@ -108,3 +109,10 @@ four-joined a b d e ha hb hd he =
     ∙ ap (λ u. roomsJoined u e) (joined-room (andThen (andThen noSearch a) b) d (omega arith))
     ∙ joined-room (andThen (andThen (andThen noSearch a) b) d) e (omega arith)
     ∙ ap roomOf (regrouped a b d e)
+
+-- ---- an answer by its parts
+
+pub answer-made : {b : Boundary} {x y : Decision} {t : LeverRooms} (id : ℕ) (blocked : Bool) (s : Sought) → x ≡ y → t ≡ roomOf s
+    → b ≡ boundaryWith noFault id x blocked t → b ≡ boundaryOf id y blocked s
+unfolding boundaryOf roomOf
+answer-made id blocked s p q e = e ∙ ap₂ (λ (x : Decision) (t : LeverRooms). boundaryWith noFault id x blocked t) p q

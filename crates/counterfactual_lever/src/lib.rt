@@ -2,9 +2,11 @@
 ghost use mathlib.Core.Path.{_≡_};
 ghost use Prim.Native.Nat.{_≤_};
 ghost use Rattle.rules.specs.Levers.{leverAt};
+ghost use Rattle.rules.specs.Price.{scaledPrice};
 ghost use Rattle.counterfactual_lever.specs.Lever.{widest};
-use pricing::scaled_price;
+use limbs_products::HALF;
 use rules::KernelModel;
+use rules::limits::PPM;
 
 // Higher is better.
 pub const QUALITY_BPS: u8 = 1;
@@ -16,6 +18,25 @@ pub const PRICE_SCALE_PPM: u8 = 3;
 pub const RISK_CEILING_BPS: u8 = 4;
 // 0 or 1.
 pub const ENABLED: u8 = 5;
+
+// A scaled price by two limbs.
+fn scaled_price_wide(price: u64, scale: u64) -> u64
+    ensures { λ r. ⌜ r ≡ scaledPrice price scale ⌝ }
+{
+    limbs::held(limbs_products::quotient(limbs_products::product(price, scale), PPM))
+}
+
+// A price at a scale in millionths, rounded down, held at the highest u64: `scaled` of one price.
+fn scaled_price(price: u64, scale: u64) -> u64
+    ensures { λ r. ⌜ r ≡ scaledPrice price scale ⌝ }
+{
+    if price < HALF {
+        if scale < HALF {
+            return price * scale / PPM;
+        }
+    }
+    scaled_price_wide(price, scale)
+}
 
 // The model with the lever of a number at a value; any other number moves nothing. Both prices move alike.
 pub fn lever_at(model: KernelModel, lever: u8, value: u64) -> KernelModel

@@ -3,9 +3,9 @@ use Rattle.rules.proofs.Kit.{arith, _≡_, sym, ap, _∙_, List}
 use Rattle.rules.specs.{Records.Listed, Verdict.judged, Rank.ranking, Decide.stoppedBy, declared.records.KernelInput.KernelInput}
 use Rattle.rules.specs.{declared.records.PolicySnapshot.PolicySnapshot, declared.decision.KernelReason.KernelReason}
 use Rattle.rules.proofs.Choices.{below-yes, below-no}
-use Rattle.kernel_decide.proofs.Stops.{open-free, by-high}
+use Rattle.kernel_stop.proofs.Stops.{open-free, by-high}
 use Rattle.kernel_ranking.specs.{State.topOf, State.stateOf, State.startOf, declared.state.State.State}
-use Rattle.kernel_decide.specs.{Stop.toldStop, declared.stop.Stop.Stop, declared.stop.Stop.the-variants.Open, declared.stop.Stop.the-variants.By}
+use Rattle.kernel_stop.specs.{Stop.toldStop, declared.Stop.Stop, declared.Stop.the-variants.Open, declared.Stop.the-variants.By}
 use Rattle.counterfactual_opening.specs.Opening.{topIn}
 
 module _ (p : PolicySnapshot) (q : KernelInput) (ls : List Listed) where

@@ -10,7 +10,7 @@ use kernel_verdict::Candidate;
 use kernel_verdict::Verdict;
 use kernel_verdict::entered;
 use pricing::Pricing;
-use pricing::cost_alone;
+use pricing_cost::cost_alone;
 use pricing_terms::ZERO_SCORE;
 use pricing_terms::terms_wide;
 use rules::KernelInput;

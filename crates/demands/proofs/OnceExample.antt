@@ -1,11 +1,17 @@
--- Demand 3 at document 01's example under a policy that rounds once: it is decided as in document 01, and both price boundaries are further out.
--- Assumes nothing.
-use Rattle.rules.proofs.Kit.{ℕ, _≤_, _≡_, refl, ap, _∙_, true, false, [], _∷_, _++_, _↔_, some, none}
+-- Demand 3 at document 01's example under a policy that rounds once: it is decided as in document 01, and both price boundaries are further out. And
+-- what `Rounding` says of a policy that rounds apart, at the example's own. Assumes nothing.
+use Rattle.rules.proofs.Kit.{ℕ, _+_, _≤_, _≡_, refl, sym, ap, _∙_, true, false, [], _∷_, _++_, _↔_, some, none, le-refl}
 use Rattle.rules.proofs.{Opened.rules, Example.bank, Example.policy, Example.choice, Example.lever, Example.noLever, Example.boundary}
-use Rattle.rules.specs.{Choice.below, Choice.atLeast, Choice.equal, Bytes.number, Records.inputOf, Records.policyWith, Records.policyOf, Numbers.Boundary}
+use Rattle.rules.specs.{Choice.below, Choice.atLeast, Choice.equal, Bytes.number, Records.inputOf, Records.policyWith, Records.policyOf, Records.modelAt}
+use Rattle.rules.specs.{Numbers.Boundary}
 use Rattle.rules.specs.{Decide.stoppedBy, Decide.decisionOf, Levers.Question, Levers.decisionAt, Levers.wins, Win.whatWouldWinOf, Margin.decisionMarginOf}
 use Rattle.rules.specs.{declared.records.PolicySnapshot.PolicySnapshot}
 use Rattle.demands.specs.Demand3.{ofLever, entriesFor, winPasses, marginPasses}
+use Rattle.rules.specs.declared.records.Rounding.the-variants.{Apart, Once}
+use Rattle.rules.specs.{Price.costOf, Price.costUnder, Verdict.judged, Verdict.judgedBy, Decide.decisionBy, Win.winBy, Margin.marginBy}
+use Rattle.demands.specs.Rounding.{apartCost}
+use Rattle.demands.proofs.Rounding.{apart-costs, apart-judges, apart-decides, apart-wins, apart-keeps, thirty-say-apart, once-at-most-apart}
+use Rattle.demands.proofs.Rounding.{apart-at-most-one-more}
 use Rattle.demands.proofs.BoundariesExample.{q, ls, aboutOne, aboutTwo, passes-one, one-to-scale, passes-two, two-to-scale}
 
 -- document 01's policy with a 31st byte of 1
@@ -65,3 +71,37 @@ two-by-price = two-to-scale p goes-on decides-two 4333333 1300 (ap (entriesFor 3
 -- and the margin's 95 passes are the halvings' own
 passes-C : marginPasses two ≡ 95
 passes-C = passes-two p goes-on decides-two ∙ ap (λ (b : Boundary). b .passes) row-C
+
+-- ---- what was, stays: document 01's policy has 30 bytes, and everything is by its cost
+
+abbrev before : PolicySnapshot
+before = policyOf policy
+
+rounds-apart : before .rounding ≡ Apart
+rounds-apart = thirty-say-apart policy (le-refl 30)
+
+costs-apart : costUnder before ≡ apartCost
+costs-apart = apart-costs before q ls rounds-apart
+
+judges-apart : judged before q ls ≡ judgedBy apartCost before q ls
+judges-apart = apart-judges before q ls rounds-apart
+
+decides-apart : decisionBy apartCost before q ls ≡ choice
+unfolding rules
+decides-apart = sym (apart-decides before q ls rounds-apart)
+
+wins-apart : winBy apartCost before q ls 1 ≡ boundary 1 choice false (lever 3 1000000 443333 (some 798) ∷ noLever ∷ noLever ∷ noLever ∷ []) 1 26
+unfolding rules
+wins-apart = sym (apart-wins before q ls rounds-apart 1)
+
+keeps-apart : marginBy apartCost before q ls .passes ≡ 95
+unfolding rules
+keeps-apart = ap (λ (b : Boundary). b .passes) (sym (apart-keeps before q ls rounds-apart))
+
+-- ---- the two costs beside each other, of model 1 for the example's request
+
+at-most-apart : costOf Once (modelAt bank 0) q ≤ costOf Apart (modelAt bank 0) q
+at-most-apart = once-at-most-apart (modelAt bank 0) q
+
+at-most-one-more : costOf Apart (modelAt bank 0) q ≤ costOf Once (modelAt bank 0) q + 1
+at-most-one-more = apart-at-most-one-more (modelAt bank 0) q

@@ -1,6 +1,5 @@
--- Numbers and the bytes that say them, for every width: how they are bounded, joined, and taken back. Assumes nothing.
-use Rattle.rules.proofs.Kit.{ℕ, zero, suc, _+_, _*_, _/_, _%_, _^_, _<_, List, [], _∷_, _++_, _≡_, refl, ap, arith, zero-add, suc-add, mul-assoc, pow-succ'}
-use Rattle.rules.proofs.Kit.{length, getD, take, drop, getD-drop}
+-- The number that bytes say, for every width: how it is bounded, and how number and bytes are taken back from each other. Assumes nothing.
+use Rattle.rules.proofs.Kit.{ℕ, zero, suc, _+_, _*_, _/_, _%_, _^_, _<_, List, [], _∷_, _≡_, refl, arith, pow-succ', length, getD, take, drop, getD-drop}
 use Rattle.rules.specs.Bytes.{number, bytesOf}
 
 -- A list of bytes: every element is below 256
@@ -20,12 +19,6 @@ small-take (suc w) (b ∷ bs) small (suc i) = small-take w bs (small-rest b bs s
 
 pub small-drop : (at : ℕ) (bs : List ℕ) → Small bs → Small (drop at bs)
 small-drop at bs small i = rw getD-drop (small (at + i))
-
--- A NUMBER HAS AS MANY BYTES AS WERE ASKED FOR
-pub length-bytes : (w n : ℕ) → length (bytesOf w n) ≡ w
-unfolding bytesOf
-length-bytes zero n = refl
-length-bytes (suc w) n = ap suc (length-bytes w (n / 256))
 
 -- BYTES SAY A NUMBER BELOW 256 TO THEIR COUNT
 pub number-bound : (bs : List ℕ) → Small bs → number bs < 256 ^ length bs
@@ -58,25 +51,6 @@ bytes-number (b ∷ bs) small =
     rw (low-byte b (number bs) (small 0), rest-of b (number bs) (small 0), bytes-number bs (small-rest b bs small))
 
 -- One byte says itself
-pub one-byte : (b : ℕ) → b < 256 → bytesOf 1 b ≡ b ∷ []
-unfolding bytesOf
-one-byte b h =
-    let e : b % 256 ≡ b = omega arith in
-    rw e
-
 pub number-one : (b : ℕ) → number (b ∷ []) ≡ b
 unfolding number
 number-one b = omega arith
-
--- THE BYTES AFTER THE FIRST m SAY 256 ^ m TIMES AS MUCH
-pub bytes-join : (m k lo hi : ℕ) → lo < 256 ^ m → bytesOf (m + k) (lo + 256 ^ m * hi) ≡ bytesOf m lo ++ bytesOf k hi
-unfolding bytesOf
-bytes-join zero k lo hi h =
-    let e : lo + 256 ^ 0 * hi ≡ hi = omega arith in
-    rw (e, zero-add)
-bytes-join (suc m) k lo hi h =
-    let p : 256 ^ suc m * hi ≡ 256 * (256 ^ m * hi) = rw (pow-succ', mul-assoc) in
-    let low : (lo + 256 ^ suc m * hi) % 256 ≡ lo % 256 = omega arith in
-    let up : (lo + 256 ^ suc m * hi) / 256 ≡ lo / 256 + 256 ^ m * hi = omega arith in
-    let less : lo / 256 < 256 ^ m = omega (arith, pow-succ' 256 m) in
-    rw (suc-add, low, up, bytes-join m k (lo / 256) hi less)

@@ -4,7 +4,7 @@ use Rattle.rules.proofs.Kit.{add-one, length, take, length-append, length-map, 
 use Rattle.rules.specs.{Bytes.filled, Records.listed, Records.listedOf, Records.modelAt, Numbers.Verdict, Verdict.Judged, Verdict.judge, Verdict.judged}
 use Rattle.rules.specs.{Explain.explanationRecord, Explain.explained, declared.records.KernelModel.KernelModel, declared.records.KernelInput.KernelInput}
 use Rattle.rules.specs.{declared.records.PolicySnapshot.PolicySnapshot}
-use Rattle.endian.specs.Put.{patched}
+use Rattle.endian_writing.specs.Put.{patched}
 use Rattle.packing.proofs.Layouts.{length-packed}
 use Rattle.pricing.specs.declared.Pricing.{Pricing}
 use Rattle.kernel_verdict.specs.Verdict.{verdictIn}

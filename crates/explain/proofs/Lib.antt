@@ -2,5 +2,4 @@
 pub mod Entries
 pub mod Stopped
 pub mod Rooms
-pub mod Walk
 pub mod Answers

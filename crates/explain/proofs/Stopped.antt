@@ -3,8 +3,8 @@ use Rattle.rules.proofs.Kit.{le-of-eq, _≡_, List, []}
 use Rattle.rules.specs.{Records.Listed, Verdict.judged, Decide.stoppedBy, Explain.explained, Explain.explanationOf, declared.records.KernelInput.KernelInput}
 use Rattle.rules.specs.{declared.records.PolicySnapshot.PolicySnapshot, declared.decision.KernelReason.KernelReason}
 use Rattle.rules.proofs.Choices.{below-yes, below-no}
-use Rattle.kernel_decide.specs.{Stop.toldStop, declared.stop.Stop.Stop, declared.stop.Stop.the-variants.Open, declared.stop.Stop.the-variants.By}
-use Rattle.kernel_decide.proofs.Stops.{open-free, by-high}
+use Rattle.kernel_stop.specs.{Stop.toldStop, declared.Stop.Stop, declared.Stop.the-variants.Open, declared.Stop.the-variants.By}
+use Rattle.kernel_stop.proofs.Stops.{open-free, by-high}
 
 module _ {s : Stop} (p : PolicySnapshot) (q : KernelInput) (told : toldStop s ≡ stoppedBy p q) where
   -- A STOPPED REQUEST HAS NO ENTRY

@@ -4,4 +4,4 @@ mod calls;
 mod list;
 
 pub use calls::explain;
-pub use calls::next_eligible;
+pub use explain_walk::next_eligible;

@@ -54,7 +54,7 @@ pub fn candidate_verdict(
         return gate_verdict(gate, gate_detail(model, input, gate));
     }
     let rounding = pricing.rounding;
-    let cost = pricing::cost_alone(rounding, model, input);
+    let cost = pricing_cost::cost_alone(rounding, model, input);
     if input.budget_limit_microunits < cost {
         return CandidateVerdict::OverBudget {
             cost_microunits: cost,

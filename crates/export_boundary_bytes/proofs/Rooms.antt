@@ -2,8 +2,8 @@
 use Rattle.rules.proofs.Kit.{ℕ, _+_, _≤_, _≡_, sym, _∙_, List, [], _∷_, _++_, map, append-assoc, append-nil, arith, zero-add, length, getD, replicate}
 use Rattle.rules.proofs.Kit.{length-append, drop-of-length-le}
 use Rattle.rules.specs.{Bytes.filled, Numbers.Entry, Numbers.toldEntry, Numbers.Boundary, declared.boundary.Requirement.Requirement}
-use Rattle.endian.specs.Put.{patched}
-use Rattle.endian.proofs.Stored.{patch-join}
+use Rattle.endian_writing.specs.Put.{patched}
+use Rattle.endian_writing.proofs.Stored.{patch-join}
 use Rattle.packing.proofs.Layouts.{length-packed}
 use Rattle.splice.proofs.Pieces.{patched-start, Written, written-then, written-length, written-filled}
 use Rattle.export_decision_bytes.specs.Layout.{uncountedBytes}

@@ -12,7 +12,7 @@ ghost use mathlib.Core.List.{_++_};
 ghost use lib.ListN.{length, replicate};
 ghost use Rattle.rules.specs.Bytes.{filled};
 ghost use Rattle.rules.specs.Numbers.{toldCost, toldEntry, toldBoundaries};
-ghost use Rattle.endian.specs.Put.{patched};
+ghost use Rattle.endian_writing.specs.Put.{patched};
 ghost use Rattle.export_decision_bytes.specs.Layout.{uncountedBytes};
 ghost use Rattle.export_boundary_bytes.specs.Layout.{flagNo, hasCostNo, costOr, leverSize, leverBytes, headBytes, boundarySize, boundaryBytes};
 

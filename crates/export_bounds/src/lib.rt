@@ -2,8 +2,8 @@
 // and answers its word: 0, or the refusal's.
 use bank::unchecked::input_of;
 use bank::unchecked::policy_of;
-use counterfactual::decision_margin;
-use counterfactual::what_would_win;
+use counterfactual_margin::decision_margin;
+use counterfactual_win::what_would_win;
 use export_boundary_bytes::BOUNDARY_BYTES;
 use export_boundary_bytes::boundary_bytes;
 use export_checks::call_outcome;

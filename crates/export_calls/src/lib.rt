@@ -11,7 +11,7 @@ use export_decision_bytes::DECISION_BYTES;
 use export_decision_bytes::UNCOUNTED_BYTES;
 use export_decision_bytes::decision_bytes;
 use export_decision_bytes::uncounted_bytes;
-use kernel::lent::traced_lent;
+use kernel_trace::lent::traced_lent;
 use rules::Outcome;
 use rules::Prescribed;
 use rules::Traced;

@@ -1,12 +1,12 @@
 // For the library: what stands behind the exported functions that check a catalogue, with the policy as bytes. Each function takes the very
 // slices of an exported one and answers its word: 0, or the refusal's.
-use bank::unchecked::policy_lent_outcome;
 use bank::unchecked::policy_of;
 use catalogue::trust;
-use catalogue::validate;
+use catalogue_validation::validate;
 use export_checks::outcome_word;
 use export_checks::refusal_word;
 use rules::Outcome;
+use unpacking_policy::policy_lent_outcome;
 ghost use mathlib.Core.Path.{_≡_};
 ghost use Rattle.rules.specs.Refused.{firstFault};
 ghost use Rattle.export_checks.specs.Checks.{wordOf};

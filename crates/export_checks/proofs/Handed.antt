@@ -3,7 +3,7 @@ use Rattle.rules.proofs.Kit.{ℕ, _≡_, refl, sym, ap, _∙_, List, [], _∷_,
 use Rattle.rules.specs.{Refused.Fault, Refused.Faults, Refused.firstFault, Refused.toldRefusal, Refused.toldOutcome, Refused.Answer, Refused.refused}
 use Rattle.rules.specs.{Refused.answered, Refused.unless, declared.refusal.Refusal.Refusal, declared.refusal.Outcome.Outcome}
 use Rattle.rules.specs.{declared.refusal.Outcome.the-variants.Refused}
-use Rattle.endian.specs.Put.{patched}
+use Rattle.endian_writing.specs.Put.{patched}
 use Rattle.splice.proofs.Pieces.{patched-start}
 use Rattle.export_checks.specs.Checks.{wordAt, delivered, handed}
 

@@ -4,7 +4,7 @@ use Rattle.rules.specs.{Limits.policyBytes, Limits.requestBytes, Limits.maxCata
 use Rattle.rules.specs.{Refused.bankFaults}
 use Rattle.rules.specs.{Refused.roomFaults, Stored.policyByteFaults}
 use Rattle.rules.proofs.Faults.{none-first, none-after, equal-none, room-passed, few-records}
-use Rattle.unpacking.proofs.Policies.{policy-long}
+use Rattle.unpacking_policy.proofs.Policies.{policy-long}
 use Rattle.export_checks.specs.Checks.{Lent, sizeFaults, lentFaults, callFaults}
 
 module _ (have want : ℕ) where

@@ -1,5 +1,5 @@
 // An answer handed over: its bytes at the start of the buffer, and 0 as the word.
-use endian::put64;
+use endian_writing::put64;
 use splice::put_bytes;
 ghost use mathlib.Core.Path.{_≡_};
 ghost use Prim.Native.Nat.{_≤_};

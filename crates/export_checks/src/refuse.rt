@@ -1,12 +1,12 @@
 // What a call refuses before it decides: the lengths of what comes in, how the policy rounds, the bank, the room for the answer.
 use crate::word::outcome_word;
 use bank::unchecked::input_of;
-use bank::unchecked::policy_lent_outcome;
 use call_checks::refuse::bank_outcome;
 use call_checks::refuse::input_outcome;
 use rules::Outcome;
 use rules::Refusal;
 use rules::limits::REQUEST_BYTES;
+use unpacking_policy::policy_lent_outcome;
 ghost use mathlib.Core.Path.{_≡_};
 ghost use Rattle.rules.specs.Refused.{firstFault, toldOutcome};
 ghost use Rattle.export_checks.specs.Checks.{lent, lentFaults, callFaults, checkedFaults, checkFaults, wordOf};

@@ -2,8 +2,8 @@
 use Rattle.rules.proofs.Kit.{ℕ, _<_, _≡_, _∙_, List, arith, length, set}
 use Rattle.rules.specs.{Bytes.bytesOf, Bytes.packed, Numbers.Decision, Numbers.actionNo}
 use Rattle.rules.specs.{declared.decision.KernelAction.KernelAction}
-use Rattle.endian.specs.Put.{patched}
-use Rattle.endian.proofs.Stored.{byte-patch}
+use Rattle.endian_writing.specs.Put.{patched}
+use Rattle.endian_writing.proofs.Stored.{byte-patch}
 use Rattle.packing.proofs.Packing.{Laid}
 use Rattle.splice.proofs.Pieces.{patched-start}
 use Rattle.export_decision_bytes.specs.Layout.{decisionFields, uncountedBytes}

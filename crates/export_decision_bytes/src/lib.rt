@@ -1,8 +1,8 @@
 // For the library: a decision in bytes, alone or with its counts. Nothing here asks anything of its caller.
-use endian::put16;
-use endian::put32;
-use endian::put64;
-use endian::signed_bits;
+use endian_signs::signed_bits;
+use endian_writing::put16;
+use endian_writing::put32;
+use endian_writing::put64;
 use rules::DecisionTrace;
 use rules::KernelDecision;
 use splice::put_bytes;

@@ -1,15 +1,11 @@
 -- What each call leaves, from what the calls below it tell. Assumes nothing.
-use Rattle.rules.proofs.Kit.{ℕ, _+_, _<_, _≤_, _≡_, _∙_, Bool, true, false, List, [], _∷_, _++_, arith, lt-ltb, le-ltb, ltb, length}
-use Rattle.rules.specs.{Limits.longestPolicyBytes, Limits.requestBytes, Bytes.bytesOf, Records.recordsIn, Refused.Faults, Refused.fault, Refused.refuseIf}
-use Rattle.rules.specs.{Refused.firstFault, Refused.toldOutcome, Refused.bankFaults, Refused.roomFaults, Refused.listUnless, Refused.Answer, Refused.answered}
-use Rattle.rules.specs.{Listing.readingFaults, Stored.formFaults, Stored.storedTags, Stored.storedBank, Stored.readFaults, declared.refusal.Outcome.Outcome}
-use Rattle.rules.specs.{declared.refusal.Outcome.the-variants.Answered}
-use Rattle.rules.proofs.Faults.{none-first, none-told}
-use Rattle.endian.specs.Put.{patched}
-use Rattle.endian.proofs.Stored.{patch-join}
-use Rattle.export_checks.specs.Checks.{wordAt, wordOf, wordSize, lentFaults, delivered, handed, itself}
-use Rattle.export_checks.proofs.{Tests.room-first, Handed.Told, Handed.delivered-so}
-use Rattle.export_forms.specs.Forms.{recordAtFaults, writtenWord, storedSize, storedBytes, storedIn, roomlessFaults, readStoredCall, readRequestFaults}
+use Rattle.rules.proofs.Kit.{ℕ, _<_, _≤_, _≡_, List, [], _∷_, lt-ltb, le-ltb, length}
+use Rattle.rules.specs.{Records.recordsIn, Refused.Faults, Refused.fault, Refused.bankFaults, Refused.roomFaults, Refused.listUnless, Refused.Answer}
+use Rattle.rules.specs.{Refused.answered, Listing.readingFaults}
+use Rattle.rules.proofs.Faults.{none-first}
+use Rattle.export_checks.specs.Checks.{wordSize, lentFaults, handed, itself}
+use Rattle.export_checks.proofs.Handed.{Told}
+use Rattle.export_forms.specs.Forms.{recordAtFaults, writtenWord}
 
 -- ---- a record's offset
 
@@ -34,38 +30,3 @@ pub written-so : {t : Answer ℕ} {w n : ℕ} {after : List ℕ} (fs : Faults) (
 unfolding handed
 written-so [] form out h k e = rw (e, h .is, k)
 written-so (f ∷ fs) form out h k e = rw (e, h .is, k)
-
--- The request form passes and has no room
-pub request-short : (form : List ℕ) (room : ℕ) → formFaults (3 ∷ []) form ≡ [] → room < requestBytes → readRequestFaults form room ≡ fault 4 ∷ []
-request-short form room e h = rw (e, room-first requestBytes room h)
-
--- The form has no fault of its own: 4
-pub four-left : {o : Outcome} {w : ℕ} (fs : Faults) → o ≡ Answered → toldOutcome o ≡ firstFault fs → w ≡ wordAt 0 (fault 4)
-    → w ≡ wordOf (firstFault (fs ++ (fault 4 ∷ [])))
-unfolding firstFault
-four-left fs e h k = rw (none-told fs e h) k
-
--- The policy that was read has no room: the form's own fault, else 4, and neither buffer is written
-pub roomless-so : {w : ℕ} (form bank out : List ℕ) → length out < storedSize → w ≡ wordOf (firstFault (roomlessFaults form))
-    → ((w, out), bank) ≡ readStoredCall form bank out
-unfolding readFaults roomFaults firstFault handed
-roomless-so {w} form bank out short h =
-    rw (lt-ltb (length out) storedSize short)
-    (go (formFaults storedTags form) (ltb (length bank) (length (storedBank form))) h)
-  where
-    leaves : Faults → (ℕ × List ℕ) × List ℕ
-    leaves fs = (handed storedBytes fs (answered (storedIn form)) out, listUnless fs (storedBank form) bank)
-
-    go : (fs : Faults) (t : Bool) → w ≡ wordOf (firstFault (fs ++ (fault 4 ∷ [])))
-        → ((w, out), bank) ≡ leaves ((fs ++ refuseIf t (fault 4)) ++ (fault 4 ∷ []))
-    go [] true e = rw e
-    go [] false e = rw e
-    go (f ∷ fs) t e = rw e
-
--- A policy at the start of a buffer, and a length right after it
-pub policy-and-length : {e g : List ℕ} (d head : List ℕ) (n : ℕ) → length head ≡ longestPolicyBytes → storedSize ≤ length d
-    → e ≡ patched d 0 head → g ≡ patched e longestPolicyBytes (bytesOf wordSize n) → (0, g) ≡ delivered (head ++ bytesOf wordSize n) d
-policy-and-length d head n long room first second =
-    let next : longestPolicyBytes ≡ 0 + length head = omega (arith, long) in
-    let join = patch-join d 0 head (bytesOf wordSize n) (omega (arith, long, room)) in
-    delivered-so _ _ (second ∙ (λ i. patched (first i) (next i) (bytesOf wordSize n)) ∙ join)

@@ -1,2 +1,2 @@
--- What the exported functions hand over besides decisions and texts: what each refuses, and what it writes.
+-- What the exported functions that hand over a record's offset or a form leave.
 pub mod Forms

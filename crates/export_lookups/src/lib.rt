@@ -2,9 +2,9 @@
 // a list. Each function takes the very slices of an exported one and answers its word: 0, or the refusal's.
 use bank::unchecked::input_of;
 use bank::unchecked::policy_of;
-use endian::put16;
-use endian::signed_bits;
-use explain::next_eligible;
+use endian_signs::signed_bits;
+use endian_writing::put16;
+use explain_walk::next_eligible;
 use export_checks::call_outcome;
 use export_checks::hand_u64;
 use export_checks::lent_outcome;

@@ -5,11 +5,11 @@ use Rattle.rules.proofs.Kit.{drop-drop, length-take-le}
 use Rattle.rules.specs.{Bytes.bytesOf, Bytes.filled, Refused.fault, Refused.roomFaults, Refused.Answer, Refused.refused, Refused.answered, Printed.printOf}
 use Rattle.rules.specs.{Printed.printBuffer}
 use Rattle.rules.proofs.Faults.{room-enough}
-use Rattle.endian.proofs.Numbers.{length-bytes}
+use Rattle.endian_writing.proofs.Bytes.{length-bytes}
 use Rattle.export_checks.specs.Checks.{wordSize}
 use Rattle.export_checks.proofs.{Tests.room-first, Handed.first-handed, Handed.answer-delivered}
 use Rattle.export_texts.specs.Texts.{textFaults, textBytes, textCall, headed}
-use Rattle.stored_fields.proofs.Forms.{to-end}
+use Rattle.stored_layout.proofs.Forms.{to-end}
 
 -- No room for the length
 pub text-short : (t : List ℕ) (room : ℕ) → room < wordSize → textFaults t room ≡ fault 4 ∷ []

@@ -1,6 +1,5 @@
-// The calls that decide over a lent bank. Those passed on here ask nothing of their caller; `lent` is for other crates.
+// The calls that decide over a lent bank. They ask nothing of their caller.
 mod calls;
-pub mod lent;
 
 pub use call_checks::find;
 pub use call_checks::validate_input;

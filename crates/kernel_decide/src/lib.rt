@@ -1,5 +1,3 @@
-// For other crates: the decision over a lent bank whose length has been tested, as it is or with one record varied, and what stops a request
-// before it.
+// For other crates: the decision over a lent bank whose length has been tested, as it is or with one record varied.
 pub mod decide;
 pub mod stand;
-pub mod stop;

@@ -21,8 +21,9 @@ byScore t = below (2 ^ 63) (t .score) (Eligible t) (NonPositive t)
 -- D3, D14, D19. A gate that fails, then the budget, then the utility
 unfoldable pub verdictIn : Pricing → KernelInput → KernelModel → Verdict
 verdictIn pr q m =
+    let cost = costOf (pr .rounding) m q in
     below 0 (gateOf m q) (Rejected (gateOf m q))
-    (below (q .«budget_limit_microunits») (costOf (pr .rounding) m q) (OverBudget (costOf (pr .rounding) m q)) (byScore (termsWith pr m (costOf (pr .rounding) m q))))
+    (below (q .«budget_limit_microunits») cost (OverBudget cost) (byScore (termsWith pr m cost)))
 
 -- D23. The counts with one more record
 unfoldable pub countedOf : RejectionHistogram → Verdict → RejectionHistogram

@@ -51,7 +51,7 @@ pub fn verdict_of(pricing: Pricing, input: KernelInput, model: KernelModel) -> V
         return Verdict::Rejected(gate);
     }
     let rounding = pricing.rounding;
-    let cost = pricing::cost(rounding, model, input);
+    let cost = pricing_cost::cost(rounding, model, input);
     if input.budget_limit_microunits < cost {
         return Verdict::OverBudget(cost);
     }

@@ -2,7 +2,8 @@
 use Rattle.rules.proofs.Kit.{ℕ, _+_, _^_, _≤_, _<_, List, [], _∷_, _++_, append-assoc, _≡_, refl, sym, ap, _∙_, arith, length, take, drop, length-append}
 use Rattle.rules.proofs.Kit.{length-take, length-drop, take-append-drop, drop-of-length-le, take-at, drop-at, drop-drop}
 use Rattle.rules.specs.Bytes.{number, bytesOf, numberAt, packed}
-use Rattle.endian.proofs.Numbers.{Small, small-take, small-drop, length-bytes, number-bytes, bytes-number}
+use Rattle.endian.proofs.Numbers.{Small, small-take, small-drop, number-bytes, bytes-number}
+use Rattle.endian_writing.proofs.Bytes.{length-bytes}
 
 -- Each number fits its width's bytes
 abbrev pub Fitting : List (ℕ × ℕ) → Type 0

@@ -2,8 +2,8 @@
 use Rattle.rules.proofs.Kit.{ℕ, suc, zero, _+_, _≤_, _<_, _/_, _%_, List, [], _∷_, _++_, append-assoc, append-nil, _≡_, refl, ap, _∙_, arith, zero-add, add-one}
 use Rattle.rules.proofs.Kit.{length, take, drop, getD, length-take, drop-of-length-le, take-append-add, take-append-le, take-all, drop-cons}
 use Rattle.rules.specs.Bytes.{bytesOf, packed, filled}
-use Rattle.endian.specs.Put.{patched}
-use Rattle.endian.proofs.{Numbers.length-bytes, Stored.patch-join, Stored.length-patched}
+use Rattle.endian_writing.specs.Put.{patched}
+use Rattle.endian_writing.proofs.{Bytes.length-bytes, Stored.patch-join, Stored.length-patched}
 use Rattle.packing.specs.Beside.{beside, Tight}
 use Rattle.packing.proofs.Layouts.{widths, length-packed, packed-append}
 

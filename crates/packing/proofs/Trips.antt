@@ -10,8 +10,9 @@ use Rattle.rules.specs.{Stored.readPolicyOf, declared.records.KernelModel.Kerne
 use Rattle.rules.specs.{declared.records.PolicySnapshot.PolicySnapshot, declared.records.Rounding.Rounding}
 use Rattle.rules.specs.declared.records.Rounding.the-variants.{Apart, Once}
 use Rattle.rules.proofs.Faults.{below-none}
-use Rattle.endian.proofs.{Numbers.Small, Numbers.small-take, Numbers.small-drop, Numbers.number-bound, Numbers.one-byte, Numbers.number-one}
-use Rattle.endian.proofs.Signs.{signed-bits, bits-signed}
+use Rattle.endian.proofs.Numbers.{Small, small-take, small-drop, number-bound, number-one}
+use Rattle.endian_writing.proofs.Bytes.{one-byte}
+use Rattle.endian_signs.proofs.Signs.{signed-bits, bits-signed}
 use Rattle.packing.proofs.Layouts.{Fitting, fitting-append, length-packed, packed-append, packed-says, says-packed}
 
 -- What is written has the bytes of its fields

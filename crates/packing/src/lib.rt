@@ -6,7 +6,7 @@ ghost use mathlib.Core.Path.{_≡_};
 ghost use lib.ListN.{length};
 ghost use Rattle.rules.specs.Limits.{policyBytes};
 ghost use Rattle.rules.specs.Records.{modelBytes, inputBytes, policyNumberBytes, policyInBytes};
-use endian::signed_bits;
+use endian_signs::signed_bits;
 use rules::KernelInput;
 use rules::KernelModel;
 use rules::PolicySnapshot;
@@ -14,6 +14,7 @@ use rules::limits::LONGEST_POLICY_BYTES;
 use rules::limits::LongestPolicyBytes;
 use rules::limits::ModelBytes;
 use rules::limits::POLICY_BYTES;
+use rules::limits::PolicyNumberBytes;
 use rules::limits::RECORD_BYTES;
 use rules::limits::REQUEST_BYTES;
 use rules::limits::RequestBytes;
@@ -84,7 +85,7 @@ fn put_numbers(out: &mut [u8], p: PolicySnapshot)
 }
 
 // The bytes that say a policy's numbers, as in tag 1.
-pub fn policy_number_bytes(p: PolicySnapshot) -> [u8; POLICY_BYTES]
+pub fn policy_number_bytes(p: PolicySnapshot) -> PolicyNumberBytes
     ensures { λ r. ⌜ r ≡ policyNumberBytes p ⌝ }
 {
     let mut a = [0u8; POLICY_BYTES];

@@ -3,7 +3,7 @@ ghost use mathlib.Core.Path.{_≡_};
 ghost use lib.ListN.{length};
 ghost use Rattle.rules.specs.Bytes.{packed};
 ghost use Rattle.packing.specs.Beside.{beside, Tight};
-use endian::put64;
+use endian_writing::put64;
 
 // Writes numbers one after the other, each in its width's bytes. Eight go in each time, and the next number covers those
 // beyond the width.

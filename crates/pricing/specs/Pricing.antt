@@ -1,4 +1,4 @@
--- What a policy and a request settle once, and how far 64 bits are enough.
+-- What a policy and a request settle once.
 use mathlib.Core.Path.{_≡_}
 use Prim.Native.Nat.{ℕ, _*_, _^_, _<_}
 use Rattle.rules.specs.Choice.{below}
@@ -8,10 +8,6 @@ use Rattle.rules.specs.Wide.{val, wideOf}
 use Rattle.rules.specs.declared.records.KernelInput.{KernelInput}
 use Rattle.rules.specs.declared.records.PolicySnapshot.{PolicySnapshot}
 use Rattle.pricing.specs.declared.Pricing.{Pricing}
-
--- what both prices stay below for the tokens of both directions to be paid by 64 bits
-unfoldable pub priceLimit : ℕ → ℕ → ℕ
-priceLimit inputTokens outputTokens = below inputTokens (2 ^ 24) (below outputTokens (2 ^ 24) (2 ^ 40) (2 ^ 32)) (2 ^ 32)
 
 -- a value times a share, where that fits for every share, else the largest number
 unfoldable pub prefixOf : ℕ → ℕ → ℕ

@@ -1,11 +1,7 @@
-// For other crates: what a model costs for a request, and what a policy and a request settle once for every model. Numbers that fit
-// 64 bits take the short way, decided by a test on the numbers alone; all others go by two limbs, in functions of their own.
-mod price;
+// For other crates: what a policy and a request settle once for every model. Numbers that fit 64 bits take the short way, decided by a test on
+// the numbers alone; all others go by two limbs, in functions of their own.
 mod settle;
 
-pub use price::cost;
-pub use price::cost_alone;
-pub use price::scaled_price;
 use rules::Rounding;
 use rules::Wide;
 pub use settle::pricing_of;
@@ -13,8 +9,6 @@ pub use settle::share;
 pub use settle::share_small;
 pub use settle::widened;
 
-// Two factors below this multiply within 64 bits: 2^32.
-pub const HALF: u64 = 0x1_0000_0000;
 // Below this, a product with a u16 fits 64 bits: 2^48.
 pub const PREFIX_LIMIT: u64 = 0x1_0000_0000_0000;
 

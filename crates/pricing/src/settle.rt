@@ -58,7 +58,7 @@ fn share_wide(value: u64, a: u16, b: u16) -> Wide
     ensures { λ r. ⌜ r ≡ wideOf (shareOf value a b) ⌝ }
 {
     let shares = (a as u64) * (b as u64);
-    limbs::quotient(limbs::product(value, shares), SCALED_BASIS_POINTS)
+    limbs_products::quotient(limbs_products::product(value, shares), SCALED_BASIS_POINTS)
 }
 
 // A value times two shares: `scaled_term_exact`.

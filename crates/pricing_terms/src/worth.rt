@@ -7,7 +7,7 @@ ghost use Rattle.pricing.specs.Pricing.{Settled};
 ghost use Rattle.pricing_terms.specs.Score.{unscored, scoreOf};
 ghost use Rattle.pricing_terms.specs.Terms.{scoredTerms, termsWith, utilityTermsOf};
 use crate::ScoredTerms;
-use pricing::HALF;
+use limbs_products::HALF;
 use pricing::PREFIX_LIMIT;
 use pricing::Pricing;
 use pricing::share;
@@ -84,7 +84,7 @@ fn terms_exact(
     ensures { λ r. ⌜ r ≡ scoredTerms (shareOf value confidence bps) (record { hi = hi; lo = lo }) cost (ms * penalty) ⌝ }
 {
     let quality = share(value, confidence, bps);
-    let latency = limbs::product(ms as u64, penalty);
+    let latency = limbs_products::product(ms as u64, penalty);
     let risk = Wide { hi, lo };
     let loss = limbs::add(risk, limbs::add(limbs::of_one(cost), latency));
     ScoredTerms {

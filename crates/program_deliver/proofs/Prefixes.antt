@@ -7,7 +7,7 @@ use Rattle.rules.proofs.Kit.{take-all}
 use Rattle.rules.specs.{Bytes.number, Refused.Fault, Refused.Faults, Refused.fault, Refused.refuseIf, Refused.unless, Stored.fits, Stored.tagOf}
 use Rattle.rules.specs.{Stored.bodyLength, Stored.bodyOf, Stored.afterOf, Stored.bodyFaults, Stored.fieldFaults, Stored.formFaults, Printed.refusedLine}
 use Rattle.rules.specs.{Printed.programTags, Printed.programFaults}
-use Rattle.stored_fields.proofs.Lengths.{fits-policy, fits-bank, fits-request, fits-rounding}
+use Rattle.stored_layout.proofs.Lengths.{fits-policy, fits-bank, fits-request, fits-rounding}
 use Rattle.program_deliver.specs.Sizes.{readBytes}
 
 -- ---- tests that hand back the same first number

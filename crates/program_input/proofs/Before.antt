@@ -2,8 +2,8 @@
 use Rattle.rules.proofs.Kit.{ℕ, _≡_, List, [], _∷_}
 use Rattle.rules.specs.{Records.inputOf, Records.policyOf, Stored.bodyOf, Stored.formFaults, Stored.storedPolicy, Printed.programTags, Printed.programRequest}
 use Rattle.rules.specs.declared.records.Rounding.the-variants.{Apart}
-use Rattle.stored_fields.proofs.{Before.NoFour, Before.four-left-out, Before.tested-without-four, Before.apart-without-four, Before.read-without-four}
-use Rattle.stored_fields.proofs.Lengths.{policy-length}
+use Rattle.stored_layout.proofs.{Before.NoFour, Before.four-left-out, Before.tested-without-four, Before.apart-without-four, Before.read-without-four}
+use Rattle.stored_layout.proofs.Lengths.{policy-length}
 use Rattle.program_input.specs.Formed.{Formed}
 use Rattle.program_input.proofs.Tests.{afterBank, fields}
 

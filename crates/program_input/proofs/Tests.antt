@@ -8,7 +8,7 @@ use Rattle.rules.specs.{Printed.programModels, Printed.programRequest, Printed.
 use Rattle.rules.specs.{declared.records.PolicySnapshot.PolicySnapshot, declared.refusal.Refusal.Refusal, declared.refusal.Outcome.Outcome}
 use Rattle.rules.specs.{declared.refusal.Outcome.the-variants.Answered, declared.refusal.Outcome.the-variants.Refused}
 use Rattle.rules.proofs.Faults.{none-first, append-refused, joined-told}
-use Rattle.stored_fields.proofs.{OneField.Passed, OneField.body-length, Forms.form-passed, Forms.form-due, Lengths.fits-bank}
+use Rattle.stored_layout.proofs.{Passing.Passed, Passing.body-length, Forms.form-passed, Forms.form-due, Lengths.fits-bank}
 use Rattle.program_input.specs.Formed.{Formed, formedFaults}
 use Rattle.rules.specs.declared.refusal.Refusal.the-variants as refusal
 

@@ -9,7 +9,7 @@ use bank::unchecked::input_of;
 use bank::unchecked::policy_with;
 use call_checks::refuse::first_refused;
 use call_checks::refuse::input_outcome;
-use catalogue::validation::catalog_outcome;
+use catalogue_validation::catalog_outcome;
 use rules::KernelInput;
 use rules::Outcome;
 use rules::PolicySnapshot;
@@ -20,11 +20,11 @@ use stored_fields::BANK_TAG;
 use stored_fields::POLICY_TAG;
 use stored_fields::REQUEST_TAG;
 use stored_fields::ROUNDING_TAG;
-use stored_fields::after_due;
-use stored_fields::after_front;
-use stored_fields::front_body;
-use stored_fields::lay_out;
-use stored_fields::rounding_in;
+use stored_layout::after_due;
+use stored_layout::after_front;
+use stored_layout::front_body;
+use stored_layout::lay_out;
+use stored_layout::rounding_in;
 
 // Tags 1 and 4: the policy.
 pub fn policy_in(input: &[u8]) -> PolicySnapshot

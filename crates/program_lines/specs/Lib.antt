@@ -1,2 +1,2 @@
--- Parts of the lines.
+-- A part of a line.
 pub mod Pieces

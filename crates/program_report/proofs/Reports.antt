@@ -8,7 +8,7 @@ use Rattle.rules.specs.{declared.records.KernelInput.KernelInput, declared.reco
 use Rattle.rules.specs.{declared.decision.KernelDecision.KernelDecision, declared.decision.DecisionTrace.DecisionTrace}
 use Rattle.rules.specs.{declared.decision.RejectionHistogram.RejectionHistogram, declared.decision.Traced.Traced}
 use Rattle.rules.proofs.Faults.{some-fault}
-use Rattle.stored_fields.proofs.Buffers.{none-answered}
+use Rattle.stored_layout.proofs.Buffers.{none-answered}
 use Rattle.rules.specs.declared.decision.Traced.the-variants as traced
 
 -- ---- the unit's report

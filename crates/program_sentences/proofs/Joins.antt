@@ -1,7 +1,7 @@
 -- Sentences as they are put together, piece by piece. Assumes nothing.
-use Rattle.rules.proofs.Kit.{ℕ, zero, suc, _+_, _/_, _%_, _<_, _≡_, refl, sym, ap, _∙_, List, [], _∷_, _++_, map, append-nil, append-assoc, add-one, arith}
+use Rattle.rules.proofs.Kit.{ℕ, zero, suc, _+_, _<_, _≡_, refl, sym, ap, _∙_, List, [], _∷_, _++_, map, append-nil, append-assoc, add-one, arith}
 use Rattle.rules.proofs.Kit.{length, take, getD}
-use Rattle.rules.specs.{Text.text, Text.decimal, Numbers.Entry, Numbers.toldEntry, Words.sentence, Words.digit, Words.percent, Words.riseWords}
+use Rattle.rules.specs.{Text.text, Text.decimal, Numbers.Entry, Numbers.toldEntry, Words.sentence, Words.riseWords}
 use Rattle.rules.specs.{Words.latencyWords, Words.priceWords, Words.switchWords, Words.leverWords, Words.leversWords, declared.boundary.Requirement.Requirement}
 use Rattle.rules.proofs.Choices.{equal-yes, equal-no}
 
@@ -19,20 +19,6 @@ pub latency-joins : (e : Entry)
     → text "Latency: " ++ decimal (e .current) ++ text " ms today; it must fall to at most " ++ decimal (e .boundary) ++ text " ms.\n" ≡ latencyWords e
 unfolding latencyWords text
 latency-joins e = ends-line (text "Latency: " ++ decimal (e .current) ++ text " ms today; it must fall to at most " ++ decimal (e .boundary)) (text " ms.")
-
--- A SHARE IN PERCENT: its digits after the point stand in one piece
-pub percent-joins : {a b c d : ℕ} (n : ℕ) → a ≡ 48 + n / 1000 % 10 → b ≡ 48 + n / 100 % 10 → c ≡ 48 + n / 10 % 10 → d ≡ 48 + n % 10
-    → decimal (n / 10000) ++ (46 ∷ a ∷ b ∷ c ∷ d ∷ []) ++ text " percent" ≡ percent n
-unfolding percent digit text
-percent-joins {a} {b} {c} {d} n ea eb ec ed =
-    let whole = decimal (n / 10000) in
-    ap (λ (s : List ℕ). s ++ text " percent")
-    (sym
-    (append-assoc (whole ++ (46 ∷ []) ++ (a ∷ []) ++ (b ∷ [])) (c ∷ []) (d ∷ [])
-    ∙ append-assoc (whole ++ (46 ∷ []) ++ (a ∷ [])) (b ∷ []) (c ∷ d ∷ [])
-    ∙ append-assoc (whole ++ (46 ∷ [])) (a ∷ []) (b ∷ c ∷ d ∷ [])
-    ∙ append-assoc whole (46 ∷ []) (a ∷ b ∷ c ∷ d ∷ [])))
-    ∙ (λ i. whole ++ (46 ∷ []) ++ (ea i ∷ []) ++ (eb i ∷ []) ++ (ec i ∷ []) ++ (ed i ∷ []) ++ text " percent")
 
 -- The sentence of a lever by its number
 module _ (id : ℕ) (e : Entry) where

@@ -1,55 +1,27 @@
-// For other crates: sentences, each put into a buffer from a position on, which must leave room. None has more than 200 bytes.
+// For other crates: the sentences of levers, each put into a buffer from a position on, which must leave room. None has more than 200 bytes.
 ghost use mathlib.Core.Path.{_≡_};
-ghost use mathlib.Core.List.{map, _++_};
-ghost use Prim.Native.Nat.{_+_, _-_, _%_, _≤_};
+ghost use mathlib.Core.List.{map};
+ghost use Prim.Native.Nat.{_+_, _-_, _≤_};
 ghost use lib.ListN.{length, take};
 ghost use Rattle.rules.specs.Limits.{ppm};
 ghost use Rattle.rules.specs.Numbers.{toldCost, toldEntry};
-ghost use Rattle.rules.specs.Text.{decimal};
-ghost use Rattle.rules.specs.Words.{sentence, percent, riseWords, latencyWords, costWords, priceWords, leverWords, leversWords};
+ghost use Rattle.rules.specs.Words.{riseWords, latencyWords, costWords, priceWords, leverWords, leversWords};
 ghost use mathlib.Core.Option.{some};
 ghost use Rattle.splice.specs.Placed.{placed};
 ghost use Rattle.program_sentences.specs.Parts.{fallWords};
+use program_phrases::put_about;
+use program_phrases::put_number;
+use program_phrases::put_percent;
+use program_phrases::put_remark;
 use rules::BoundaryCost;
 use rules::Levers;
 use rules::Requirement;
 use rules::limits::PPM;
 use text::put_byte;
-use text::put_decimal;
 use text::put_text;
 
 // The rooms for levers in an answer.
 const LEVERS: usize = 4;
-
-// A number.
-fn put_number(out: &mut [u8], at: usize, n: u64) -> usize
-    requires { ⌜ at + 20 ≤ length (now out) ⌝ }
-    ensures { λ r. ⌜ some (r, now (out .exit)) ≡ placed (now (out .entry)) at (decimal n) ⌝ }
-    ensures { λ r. ⌜ r ≤ at + 20 ⌝ }
-{
-    put_decimal(out, at, n)
-}
-
-// Some words, a number, and more words.
-fn put_about(out: &mut [u8], at: usize, before: &[u8], n: u64, after: &[u8]) -> usize
-    requires { ⌜ at + (length (now before) + 20 + length (now after)) ≤ length (now out) ⌝ }
-    ensures { λ r. ⌜ some (r, now (out .exit)) ≡ placed (now (out .entry)) at (now (before .entry) ++ decimal n ++ now (after .entry)) ⌝ }
-    ensures { λ r. ⌜ r ≤ at + (length (now (before .entry)) + 20 + length (now (after .entry))) ⌝ }
-{
-    let number = put_text(out, at, before);
-    let next = put_number(out, number, n);
-    put_text(out, next, after)
-}
-
-// A sentence of them.
-pub fn put_remark(out: &mut [u8], at: usize, before: &[u8], n: u64, after: &[u8]) -> usize
-    requires { ⌜ at + (length (now before) + 21 + length (now after)) ≤ length (now out) ⌝ }
-    ensures { λ r. ⌜ some (r, now (out .exit)) ≡ placed (now (out .entry)) at (sentence (now (before .entry) ++ decimal n ++ now (after .entry))) ⌝ }
-    ensures { λ r. ⌜ r ≤ at + (length (now (before .entry)) + 21 + length (now (after .entry))) ⌝ }
-{
-    let end = put_about(out, at, before, n, after);
-    put_byte(out, end, b'\n')
-}
 
 // Quality and ceiling must rise.
 fn put_rise(out: &mut [u8], at: usize, name: &[u8], lever: Requirement) -> usize
@@ -73,31 +45,6 @@ fn put_latency(out: &mut [u8], at: usize, lever: Requirement) -> usize
     let next = put_about(out, at, b"Latency: ", lever.current, middle);
     let number = put_number(out, next, lever.boundary);
     put_text(out, number, b" ms.\n")
-}
-
-// The byte of a number's last digit.
-fn last_digit(n: u64) -> u8
-    ensures { λ r. ⌜ r ≡ 48 + n % 10 ⌝ }
-{
-    48 + (n % 10) as u8
-}
-
-// Millionths as percent.
-fn put_percent(out: &mut [u8], at: usize, n: u64) -> usize
-    requires { ⌜ at + 33 ≤ length (now out) ⌝ }
-    ensures { λ r. ⌜ some (r, now (out .exit)) ≡ placed (now (out .entry)) at (percent n) ⌝ }
-    ensures { λ r. ⌜ r ≤ at + 33 ⌝ }
-{
-    let digits = [
-        b'.',
-        last_digit(n / 1_000),
-        last_digit(n / 100),
-        last_digit(n / 10),
-        last_digit(n),
-    ];
-    let point = put_number(out, at, n / 10_000);
-    let next = put_text(out, point, &digits);
-    put_text(out, next, b" percent")
 }
 
 // By how much a price must fall to come to a share of today's.

@@ -1,4 +1,4 @@
--- Rows and vectors of document 01, by computation, and the laws that code proofs cite.
+-- The table of document 01 and the rows that edits of a definition are refused by, by computation, and the laws that code proofs cite.
 pub mod Kit
 pub mod Choices
 pub mod Stopped
@@ -18,12 +18,9 @@ pub mod Sorted
 pub mod Better
 pub mod Chunks
 pub mod Example
-pub mod Literals
 pub mod Opened
 pub mod Rows
 pub mod Table
-pub mod Vectors
+pub mod KeyRows
+pub mod OnceRows
 pub mod BoundaryRows
-pub mod Loading
-pub mod Printing
-pub mod RoundingRows

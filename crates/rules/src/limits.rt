@@ -34,6 +34,8 @@ pub type ModelBytes = [u8; RECORD_BYTES];
 
 pub type RequestBytes = [u8; REQUEST_BYTES];
 
+pub type PolicyNumberBytes = [u8; POLICY_BYTES];
+
 pub type LongestPolicyBytes = [u8; LONGEST_POLICY_BYTES];
 
 // An explanation record's bytes.

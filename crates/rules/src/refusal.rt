@@ -1,4 +1,4 @@
-// Why a call is refused: a case for each of document 01's numbers, with that number's values.
+// Why a call is refused: a case for each number of documents 01 and 02, with that number's values.
 ghost use mathlib.Core.Path.{_≡_};
 ghost use Rattle.rules.specs.Refused.{toldRefusal};
 
@@ -80,7 +80,7 @@ pub struct Trusted {
 }
 
 impl Refusal {
-    // Document 01's number.
+    // The documents' number.
     pub fn number(self) -> u8
         ensures { λ r. ⌜ r ≡ toldRefusal self .number ⌝ }
     {

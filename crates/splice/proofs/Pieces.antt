@@ -3,8 +3,8 @@ use Rattle.rules.proofs.Kit.{ℕ, _+_, _≤_, _<_, _≡_, refl, sym, ap, subst,
 use Rattle.rules.proofs.Kit.{Option·some-injective, Option·none-ne-some, arith, zero-add, add-zero, add-one, length, take, drop, set, getD, length-append}
 use Rattle.rules.proofs.Kit.{take-append-drop, leb, take-at, take-length, paste, paste-zero, paste-suc, leb-true}
 use Rattle.rules.specs.{Bytes.filled, Choice.atLeast}
-use Rattle.endian.specs.Put.{patched}
-use Rattle.endian.proofs.Stored.{length-patched, patch-join}
+use Rattle.endian_writing.specs.Put.{patched}
+use Rattle.endian_writing.proofs.Stored.{length-patched, patch-join}
 use Rattle.rules.proofs.Choices.{atLeast-yes}
 use Rattle.splice.specs.Placed.{placed}
 

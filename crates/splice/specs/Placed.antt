@@ -4,7 +4,7 @@ use mathlib.Core.List.{List}
 use mathlib.Core.Option.{Option, none, some}
 use lib.ListN.{length}
 use Rattle.rules.specs.Choice.{atLeast}
-use Rattle.endian.specs.Put.{patched}
+use Rattle.endian_writing.specs.Put.{patched}
 
 -- Bytes written into a buffer from a position on: the next position, which is the one after them, and the buffer, as it was but for them.
 -- None where the buffer has no room for them

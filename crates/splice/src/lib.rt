@@ -2,7 +2,7 @@
 ghost use mathlib.Core.Path.{_≡_};
 ghost use Prim.Native.Nat.{_+_, _≤_};
 ghost use lib.ListN.{length};
-ghost use Rattle.endian.specs.Put.{patched};
+ghost use Rattle.endian_writing.specs.Put.{patched};
 
 // Copies bytes into a buffer from a position on. What stands before and after them stays.
 pub fn put_bytes(out: &mut [u8], at: usize, bytes: &[u8])

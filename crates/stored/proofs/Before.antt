@@ -3,7 +3,7 @@ use Rattle.rules.proofs.Kit.{ℕ, _≡_, List, [], _∷_, _++_, append-nil}
 use Rattle.rules.specs.{Records.policyOf, Records.policyNumberBytes, Stored.fieldBytes, Stored.bodyOf, Stored.formFaults, Stored.roundingField}
 use Rattle.rules.specs.{Stored.storedForm, Stored.storedTags, Stored.storedPolicy, declared.records.PolicySnapshot.PolicySnapshot}
 use Rattle.rules.specs.declared.records.Rounding.the-variants.{Apart}
-use Rattle.stored_fields.proofs.{Before.NoFour, Before.tested-without-four, Before.apart-without-four, Before.read-without-four, Lengths.policy-length}
+use Rattle.stored_layout.proofs.{Before.NoFour, Before.tested-without-four, Before.apart-without-four, Before.read-without-four, Lengths.policy-length}
 use Rattle.stored.proofs.Reading.{catalog-fields}
 
 -- A FORM WITHOUT TAG 4 is tested by tags 1 and 2 alone, and its policy rounds apart

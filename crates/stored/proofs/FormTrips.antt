@@ -13,8 +13,8 @@ use Rattle.endian.proofs.Numbers.{Small, small-take, small-drop}
 use Rattle.packing.proofs.{Layouts.Fitting, Trips.length-numbers, Trips.length-input, Trips.numbers-back, Trips.input-back, Trips.with-rounding}
 use Rattle.packing.proofs.Trips.{numbers-forth, input-forth}
 use Rattle.rules.proofs.Faults.{below-none, equal-none, none-after, none-first, room-enough}
-use Rattle.stored_fields.proofs.{OneField.Passed, OneField.body-length, Forms.form-passed, Forms.form-left-out, Lengths.policy-length, Lengths.request-length}
-use Rattle.stored_fields.proofs.Lengths.{fits-bank, rounding-body}
+use Rattle.stored_layout.proofs.{Passing.Passed, Passing.body-length, Forms.form-passed, Forms.form-left-out, Lengths.policy-length, Lengths.request-length}
+use Rattle.stored_layout.proofs.Lengths.{fits-bank, rounding-body}
 use Rattle.stored.proofs.{Reading.catalog-fields, Trips.form-passes, Trips.end-passes, Trips.end-passed, Trips.body-back, Trips.rest-back}
 use Rattle.stored.proofs.Trips.{written-passes, field-forth, last-forth}
 

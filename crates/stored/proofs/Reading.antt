@@ -7,10 +7,10 @@ use Rattle.rules.specs.{Stored.readStoredBuffer, Stored.readRequestOf, declared
 use Rattle.rules.specs.{declared.records.PolicySnapshot.PolicySnapshot}
 use Rattle.rules.specs.{declared.refusal.Refusal.Refusal, declared.refusal.Outcome.Outcome, declared.refusal.Outcome.the-variants.Answered}
 use Rattle.rules.specs.{declared.refusal.Outcome.the-variants.Refused}
-use Rattle.endian.specs.Put.{patched}
+use Rattle.endian_writing.specs.Put.{patched}
 use Rattle.splice.proofs.Pieces.{patched-start}
 use Rattle.rules.proofs.Faults.{room-enough, append-refused, none-told, room-short, unless-none}
-use Rattle.stored_fields.proofs.{OneField.Passed, Forms.form-passed}
+use Rattle.stored_layout.proofs.{Passing.Passed, Forms.form-passed}
 use Rattle.rules.specs.declared.refusal.Refusal.the-variants as refusal
 
 -- ---- a form that passes has its fields

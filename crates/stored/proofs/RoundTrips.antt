@@ -10,7 +10,7 @@ use Rattle.rules.specs.{declared.records.PolicySnapshot.PolicySnapshot}
 use Rattle.endian.proofs.Numbers.{Small}
 use Rattle.packing.proofs.Layouts.{Fitting}
 use Rattle.rules.proofs.Faults.{none-first, room-enough, some-fault}
-use Rattle.stored_fields.proofs.Buffers.{none-answered}
+use Rattle.stored_layout.proofs.Buffers.{none-answered}
 use Rattle.stored.proofs.FormTrips.{Storable, storable-written, storable-none, storable-read, stored-passes, stored-bank, stored-policy, stored-forth}
 use Rattle.stored.proofs.FormTrips.{request-passes, request-says, request-forth}
 

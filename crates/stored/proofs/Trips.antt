@@ -6,7 +6,8 @@ use Rattle.rules.specs.{Limits.fieldHeaderBytes, Bytes.bytesOf, Refused.fault, 
 use Rattle.rules.specs.{Stored.afterOf, Stored.bodyFaults, Stored.fieldFaults, Stored.formFaults}
 use Rattle.endian.proofs.Numbers.{Small, small-take, small-drop, number-bytes, number-one, bytes-number}
 use Rattle.rules.proofs.Faults.{equal-none}
-use Rattle.stored_fields.proofs.OneField.{Passed, passed-there, first-tag, body-length}
+use Rattle.stored_fields.proofs.OneField.{first-tag}
+use Rattle.stored_layout.proofs.Passing.{Passed, passed-there, body-length}
 
 -- ---- a field that passes has no fault
 

@@ -6,7 +6,7 @@ use Rattle.rules.specs.{Stored.roundingField, Stored.storedForm, Stored.writeFa
 use Rattle.rules.specs.{declared.records.PolicySnapshot.PolicySnapshot, declared.records.Rounding.Rounding, declared.records.Rounding.the-variants.Apart}
 use Rattle.rules.specs.{declared.records.Rounding.the-variants.Once, declared.refusal.Outcome.Outcome, declared.refusal.Outcome.the-variants.Answered}
 use Rattle.rules.specs.{declared.refusal.Outcome.the-variants.Refused}
-use Rattle.endian.proofs.Numbers.{length-bytes}
+use Rattle.endian_writing.proofs.Bytes.{length-bytes}
 use Rattle.packing.proofs.Trips.{length-numbers, length-input}
 use Rattle.stored.specs.Writing.{roundingSize, formSize, writingFaults}
 use Rattle.rules.proofs.Faults.{none-after, room-passed, none-told}

@@ -27,11 +27,11 @@ use stored_fields::POLICY_TAG;
 use stored_fields::ROUNDING_BYTES;
 use stored_fields::ROUNDING_ONCE;
 use stored_fields::ROUNDING_TAG;
-use stored_fields::after_front;
-use stored_fields::front_body;
-use stored_fields::lay_out;
-use stored_fields::put_field;
-use stored_fields::rounding_in;
+use stored_layout::after_front;
+use stored_layout::front_body;
+use stored_layout::lay_out;
+use stored_layout::put_field;
+use stored_layout::rounding_in;
 
 // How many bytes tell in a stored form that its policy rounds so.
 fn rounding_size(rounding: Rounding) -> usize

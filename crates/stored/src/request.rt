@@ -13,9 +13,9 @@ use rules::Written;
 use rules::limits::FIELD_HEADER_BYTES;
 use rules::limits::STORED_REQUEST_BYTES;
 use stored_fields::REQUEST_TAG;
-use stored_fields::front_body;
-use stored_fields::lay_out;
-use stored_fields::put_field;
+use stored_layout::front_body;
+use stored_layout::lay_out;
+use stored_layout::put_field;
 
 // Writes a request to the start of a buffer, whose other bytes stay. Refused: 4.
 pub fn write_request(input: KernelInput, out: &mut [u8]) -> Written

@@ -1,6 +1,2 @@
--- Laws of fields and of forms made of them, which callers cite.
-pub mod Buffers
+-- Laws of one field.
 pub mod OneField
-pub mod Forms
-pub mod Before
-pub mod Lengths

@@ -22,6 +22,10 @@ unfolding spaced
 spaced-join [] vs = refl
 spaced-join (w ∷ ws) vs = append-assoc (text " " ++ w) (spaced ws) (spaced vs) ∙ ap (λ (s : List ℕ). text " " ++ w ++ s) (spaced-join ws vs)
 
+-- MORE WORDS after a name with its words
+pub words-after : (name : List ℕ) (ws vs : List (List ℕ)) → name ++ spaced ws ++ spaced vs ≡ name ++ spaced (ws ++ vs)
+words-after name ws vs = append-assoc name (spaced ws) (spaced vs) ∙ ap (λ (s : List ℕ). name ++ s) (spaced-join ws vs)
+
 map-join : (ns ms : List ℕ) → map decimal ns ++ map decimal ms ≡ map decimal (ns ++ ms)
 map-join [] ms = refl
 map-join (n ∷ ns) ms = ap (λ (ws : List (List ℕ)). decimal n ∷ ws) (map-join ns ms)

@@ -8,7 +8,7 @@ ghost use lib.ListN.{length};
 ghost use Rattle.rules.specs.Text.{decimal, signedDecimal, spaced, line};
 ghost use mathlib.Core.Option.{some};
 ghost use Rattle.splice.specs.Placed.{placed};
-use endian::signed_bits;
+use endian_signs::signed_bits;
 use splice::put_bytes;
 
 // The lowest pattern of 64 bits that says a negative number, and the highest one, which says -1.

@@ -1,8 +1,7 @@
 -- ANY TWO PERMITTED ANSWERS ARE EQUAL, for each call that a user makes. Assumes nothing.
 use Rattle.rules.proofs.Kit.{ℕ, List}
-use Rattle.rules.specs.{Records.modelOf, Records.inputOf, Numbers.toldPolicy, Stored.readPolicyOf}
+use Rattle.rules.specs.Records.{modelOf, inputOf}
 use Rattle.rules.proofs.Told.{Same, one-itself}
-use Rattle.rules.proofs.ToldStored as stored
 
 module _ (bytes : List ℕ) where
   pub one-model : Same (λ r. r) (modelOf bytes)
@@ -10,6 +9,3 @@ module _ (bytes : List ℕ) where
 
   pub one-input : Same (λ r. r) (inputOf bytes)
   one-input = one-itself _
-
-  pub one-policy : Same toldPolicy (readPolicyOf bytes)
-  one-policy = stored.one-policy _

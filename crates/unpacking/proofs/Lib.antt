@@ -1,3 +1,2 @@
--- What a policy's bytes tell, and that a call has one permitted answer.
-pub mod Policies
+-- That each call has one permitted answer.
 pub mod Answers

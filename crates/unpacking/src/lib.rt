@@ -1,25 +1,19 @@
-// For other crates: the models, requests and policies that bytes say. Every layout is packed: each field starts where the one before it ends.
-// What reads a slice asks its caller for enough bytes; what reads an array (`whole`), or refuses (`policy_from`), asks nothing, and `bank`
-// passes it on to users.
+// For other crates: the models and requests that bytes say. Every layout is packed: each field starts where the one before it ends. What reads a
+// slice asks its caller for enough bytes; what reads an array (`whole`) asks nothing, and `bank` passes it on to users.
 ghost use mathlib.Core.Path.{_≡_};
 ghost use Prim.Native.Nat.{_≤_};
 ghost use lib.ListN.{length};
 ghost use Rattle.rules.specs.Limits.{recordBytes, requestBytes};
 ghost use Rattle.rules.specs.Records.{modelOf, inputOf};
-use endian::signed;
 use endian::u16_at;
 use endian::u32_at;
 use endian::u64_at;
+use endian_signs::signed;
 use rules::KernelInput;
 use rules::KernelModel;
 
-mod policy;
 mod whole;
 
-pub use policy::policy_from;
-pub use policy::policy_lent_outcome;
-pub use policy::policy_of;
-pub use policy::policy_with;
 pub use whole::input_from;
 pub use whole::model_from;
 

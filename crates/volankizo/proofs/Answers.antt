@@ -4,7 +4,8 @@ use Rattle.rules.proofs.Kit.{ℕ, List}
 use Rattle.rules.specs.{Refused.firstFault, Printed.unitText, Printed.askText, Words.askWords}
 use Rattle.rules.proofs.Told.{Same, one-itself}
 use Rattle.export_checks.specs.Checks.{Lent, wordOf, checkFaults}
-use Rattle.export_forms.specs.Forms.{recordAtCall, writeStoredCall, readStoredCall, writeRequestCall, readRequestCall}
+use Rattle.export_form_parts.specs.Parts.{readStoredCall, readRequestCall}
+use Rattle.export_forms.specs.Forms.{recordAtCall, writeStoredCall, writeRequestCall}
 use Rattle.export_calls.specs.Calls.{prescribeCall, prescribeCheckedCall, explainCall}
 use Rattle.export_lookups.specs.Lookups.{utilityCall, findCall, nextCall}
 use Rattle.export_catalogue.specs.Catalogue.{validateFaults, trustCall}

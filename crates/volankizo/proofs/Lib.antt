@@ -1,3 +1,3 @@
--- That any two permitted answers are equal, and rows on the largest banks.
+-- That any two permitted answers are equal, and rows on what a policy's bytes are refused by.
 pub mod Answers
-mod Sizes
+mod LentRows

@@ -1,8 +1,8 @@
 // The exported functions that hand over something else than decisions: a record's offset, stored and request forms, printed texts.
+use export_form_parts::request_delivered;
+use export_form_parts::stored_delivered;
 use export_forms::offset_delivered;
-use export_forms::request_delivered;
 use export_forms::request_form_delivered;
-use export_forms::stored_delivered;
 use export_forms::stored_form_delivered;
 use export_texts::ask_text_delivered;
 use export_texts::ask_words_delivered;
@@ -10,7 +10,8 @@ use export_texts::unit_text_delivered;
 ghost use mathlib.Core.Path.{_≡_};
 ghost use Rattle.rules.specs.Printed.{unitText, askText};
 ghost use Rattle.rules.specs.Words.{askWords};
-ghost use Rattle.export_forms.specs.Forms.{recordAtCall, writeStoredCall, writeRequestCall, readStoredCall, readRequestCall};
+ghost use Rattle.export_form_parts.specs.Parts.{readStoredCall, readRequestCall};
+ghost use Rattle.export_forms.specs.Forms.{recordAtCall, writeStoredCall, writeRequestCall};
 ghost use Rattle.export_texts.specs.Texts.{textCall};
 
 // Where the record at a place begins. `bank` is whole records, `out` has room for 8. Refused: 1, 2, 4, then 8 where the place is beyond the

@@ -1,10 +1,11 @@
 //! `compare [--short] [--seed N] [--count N] [--from N] -- PROGRAM [WORD..]`: every call on the cases of the small spaces and on random ones,
-//! so many decisions as `count` says and the other sets by their share of it; the library against the Rust and the second reading. PROGRAM
-//! calls the library (`answer/answer.c`), with the emulator before it where one is needed. Ends with 1 at the first difference.
+//! so many decisions as `count` says and the other sets by their share of it, all rounding apart; then half as many of each set, rounding either
+//! way. The library against the Rust and the second reading. PROGRAM calls the library (`answer/answer.c`), with the emulator before it where one
+//! is needed. Ends with 1 at the first difference.
 use compare::calls::{Disagreement, CALLS, CHECKED, EXPLAIN, MARGIN, PRESCRIBE, WIN};
 use compare::case::Case;
 use compare::figures::{Figures, Table, SEARCHED};
-use compare::generate::{Asked, Draw, Space, DRAWS, SPACES};
+use compare::generate::{Asked, Draw, Policies, Space, DRAWS, SPACES};
 use compare::library::Library;
 use compare::second::bytes::{models_of, policy_of, request_of, RECORD_BYTES, REQUEST_BYTES};
 use compare::second::refusals;
@@ -49,10 +50,18 @@ fn main() {
     });
     let (started, short) = (Instant::now(), if wanted.short { ", a short run" } else { "" });
     let mut run = Run { library, batch: Batch::default(), calls: 0, started, shown: started };
-    println!("seed {}, {} random decisions from number {}{short}", wanted.seed, wanted.count, wanted.from);
-    let (small, random) = (small_spaces(&mut run, wanted.short), random_cases(&mut run, &wanted));
-    print!("{}", Table(&[("small spaces", &small), ("random", &random)]));
-    run.close(&small, &random);
+    let [decisions, others] = Policies::EACH.map(|policies| DRAWS[0].count(policies, wanted.count));
+    println!(
+        "seed {}, {decisions} random decisions {} and {others} {}, from number {}{short}",
+        wanted.seed,
+        Policies::Apart,
+        Policies::Both,
+        wanted.from
+    );
+    let small = small_spaces(&mut run, wanted.short);
+    let [apart, both] = Policies::EACH.map(|policies| random_cases(&mut run, &wanted, policies));
+    print!("{}", Table(&[("small spaces", &small), ("random, apart", &apart), ("random, either way", &both)]));
+    run.close(&[small, apart, both]);
 }
 
 fn wanted() -> Result<Wanted, String> {
@@ -102,19 +111,19 @@ fn small_spaces(run: &mut Run, short: bool) -> Figures {
     figures
 }
 
-fn random_cases(run: &mut Run, wanted: &Wanted) -> Figures {
+fn random_cases(run: &mut Run, wanted: &Wanted, policies: Policies) -> Figures {
     let mut figures = Figures::default();
     for draws in &DRAWS {
-        let count = (wanted.count * draws.share).div_ceil(100);
+        let (set, count) = (format!("{}, {policies}", draws.name), draws.count(policies, wanted.count));
         for number in wanted.from..wanted.from + count {
-            let name = format!("{} case {number} of seed {}", draws.name, wanted.seed);
-            run.ask(&mut figures, &draws.asked, (draws.case)(Draw::of(wanted.seed, number)), name);
+            let name = format!("{set}, case {number} of seed {}", wanted.seed);
+            run.ask(&mut figures, &draws.asked, (draws.case)(Draw::of(policies, wanted.seed, number)), name);
             if run.shown.elapsed() > PAUSE {
-                run.show(&format!("{}: {} of {count} cases", draws.name, number + 1 - wanted.from));
+                run.show(&format!("{set}: {} of {count} cases", number + 1 - wanted.from));
             }
         }
         run.settle();
-        run.show(&format!("{}: {count} of {count} cases", draws.name));
+        run.show(&format!("{set}: {count} of {count} cases"));
     }
     figures
 }
@@ -155,13 +164,13 @@ impl Run {
     }
 
     /// The last line: how often each call was asked.
-    fn close(&self, small: &Figures, random: &Figures) {
-        let asked: Vec<u64> = small.asked.iter().zip(random.asked).map(|(small, random)| small + random).collect();
+    fn close(&self, sets: &[Figures]) {
+        let asked = |call: usize| -> u64 { sets.iter().map(|set| set.asked[call]).sum() };
         let of_each: Vec<String> =
-            CALLS.iter().zip(&asked).map(|(call, cases)| format!("{} {cases}", call.name)).collect();
-        let searches = |call: usize, of: &Figures| of.found.get(&(call, SEARCHED.into())).copied().unwrap_or(0);
-        let searched: u64 = [WIN, MARGIN].iter().map(|call| searches(*call, small) + searches(*call, random)).sum();
-        let decisions: u64 = [PRESCRIBE, CHECKED, EXPLAIN].iter().map(|call| asked[*call]).sum();
+            CALLS.iter().enumerate().map(|(at, call)| format!("{} {}", call.name, asked(at))).collect();
+        let searches = |call: usize| sets.iter().filter_map(move |set| set.found.get(&(call, SEARCHED.into())));
+        let searched: u64 = [WIN, MARGIN].into_iter().flat_map(searches).sum();
+        let decisions: u64 = [PRESCRIBE, CHECKED, EXPLAIN].into_iter().map(asked).sum();
         println!("{}", of_each.join(", "));
         println!(
             "{} calls, {decisions} of them decisions and {searched} boundary searches of more than 2 passes, in {} s: 0 differences",

@@ -1,7 +1,8 @@
 //! The inputs: small spaces in full (`spaces`), then random ones, each a plausible setting (`base`) with a few fields moved to an
 //! edge of their range (`edges`) or to a limit that decides something (`aimed`). Explanations, catalogues, searches, forms, what is
 //! printed and the reading of a record have spaces and random cases of their own (`lists`, `catalogues`, `searches`, `forms`, `printed`,
-//! `places`); so have policies that round once (`roundings`), which stand among the random cases of every set.
+//! `places`). Policies that round once have spaces of their own too (`roundings`); and each random set is drawn twice, once with policies that all
+//! round apart and once with policies of both kinds.
 pub mod aimed;
 pub mod base;
 pub mod catalogues;
@@ -27,6 +28,7 @@ use crate::second::bytes::{bank_bytes, policy_bytes, request_bytes, Policy, RECO
 use crate::second::deciding::{explain, Question, Verdict};
 use oracle::kernel::{KernelInput, KernelModel, PolicySnapshot};
 use random::Random;
+use std::fmt;
 
 /// Takes the cases one by one, since the largest of them shouldn't all be held at once.
 pub type Visit<'a> = &'a mut dyn FnMut(Case);
@@ -54,6 +56,17 @@ pub struct Draws {
     pub case: fn(Draw) -> Case,
 }
 
+impl Draws {
+    /// How many are asked with such policies, where so many decisions are wanted.
+    pub fn count(&self, policies: Policies, decisions: u64) -> u64 {
+        let apart = (decisions * self.share).div_ceil(100);
+        match policies {
+            Policies::Apart => apart,
+            Policies::Both => apart.div_ceil(2),
+        }
+    }
+}
+
 /// What a random case is drawn by: it depends on nothing else.
 #[derive(Clone, Copy)]
 pub struct Draw {
@@ -65,14 +78,33 @@ pub struct Draw {
 /// How the policies round that are drawn.
 #[derive(Clone, Copy, PartialEq, Eq)]
 pub enum Policies {
+    /// Apart. Nothing is drawn to say so: the cases are those from before a policy could say anything else, number by number.
     Apart,
     /// Apart or once, and tokens and prices moved to where that shows.
     Both,
 }
 
+impl Policies {
+    pub const EACH: [Policies; 2] = [Policies::Apart, Policies::Both];
+}
+
+impl fmt::Display for Policies {
+    fn fmt(&self, f: &mut fmt::Formatter<'_>) -> fmt::Result {
+        f.write_str(match self {
+            Policies::Apart => "rounding apart",
+            Policies::Both => "rounding either way",
+        })
+    }
+}
+
 impl Draw {
-    pub fn of(seed: u64, number: u64) -> Self {
-        Draw { seed, number, policies: Policies::Both }
+    /// The draw of a number. Where policies are of both kinds it is one beside, so that no case that rounds apart is asked twice.
+    pub fn of(policies: Policies, seed: u64, number: u64) -> Self {
+        let draw = Draw { seed, number, policies };
+        match policies {
+            Policies::Apart => draw,
+            Policies::Both => draw.beside(0xb074),
+        }
     }
 
     /// Other cases than these, so that none is asked twice.

@@ -11,7 +11,7 @@ use crate::generate::catalogues::{self, sound, FAULTS};
 use crate::generate::example::{example, one_token_each_way, rows};
 use crate::generate::forms::{self, damaged, ONCE};
 use crate::generate::roundings::{duel, held_case, once};
-use crate::generate::{lists, printed, random_case, searches, small_size, Draw, Setting};
+use crate::generate::{lists, printed, random_case, searches, small_size, Draw, Policies, Setting};
 use crate::second::bytes::{LONG_POLICY_BYTES, REQUEST_BYTES};
 use crate::second::refusals;
 use crate::second::rules::Rounding::{Apart, Once};
@@ -37,7 +37,8 @@ pub fn entries(list: &mut Vec<Entry>) {
 
 /// The first so many random cases that fit an entry, whose policy says how it rounds.
 fn random(list: &mut Vec<Entry>, call: usize, number: usize, case: fn(Draw) -> Case) {
-    let cases = (0..).map(|at| case(Draw::of(SEED + call as u64, at))).filter(|case| says(case) && fits(call, case));
+    let draw = |number: u64| Draw { seed: SEED + call as u64, number, policies: Policies::Both };
+    let cases = (0..).map(|at| case(draw(at))).filter(|case| says(case) && fits(call, case));
     cases.take(number).for_each(|case| add(list, call, Case { room: Room::Exact, ..case }));
 }
 

@@ -3,7 +3,7 @@ use Rattle.rules.proofs.Kit.{ℕ, List, _++_, _≡_, refl, sym, ap, _∙_, need
 use Rattle.rules.specs.{Refused.Faults, Refused.toldOutcome, Refused.firstFault, Refused.unless, Trust.trustOf, Trust.trustBank}
 use Rattle.rules.specs.{declared.refusal.Outcome.Outcome, declared.refusal.Outcome.the-variants.Refused, declared.refusal.Refusal.Refusal}
 use Rattle.rules.proofs.Faults.{append-refused, unless-refused, none-told}
-use Rattle.unpacking.proofs.Policies.{policy-long}
+use Rattle.unpacking_policy.proofs.Policies.{policy-long}
 use Rattle.export_checks.specs.Checks.{wordOf}
 use Rattle.export_checks.proofs.Handed.{both}
 use Rattle.export_catalogue.proofs.trust_delivered.Statement.{statement}

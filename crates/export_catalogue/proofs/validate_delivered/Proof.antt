@@ -2,7 +2,7 @@
 use Rattle.rules.proofs.Kit.{ap, _∙_, needs}
 use Rattle.rules.specs.{Refused.toldOutcome, Validate.validateOf}
 use Rattle.rules.proofs.Faults.{append-passed, append-refused, none-told}
-use Rattle.unpacking.proofs.Policies.{policy-long}
+use Rattle.unpacking_policy.proofs.Policies.{policy-long}
 use Rattle.export_checks.specs.Checks.{wordOf}
 use Rattle.export_catalogue.proofs.validate_delivered.Statement.{statement}
 use Rattle.export_catalogue.proofs.validate_delivered.Tie as tie

@@ -1,7 +1,7 @@
 -- `kernel_utility::utility_in` meets its contract. Assumes nothing.
 use Rattle.rules.proofs.Kit.{sym, ap, _∙_, needs}
 use Rattle.rules.specs.Decide.{ifListed}
-use Rattle.kernel_decide.proofs.Stops.{open-utility, stopped-utility}
+use Rattle.kernel_stop.proofs.Stops.{open-utility, stopped-utility}
 use Rattle.call_checks.proofs.Finding.{found-at, found-nothing, without, with-place}
 use Rattle.kernel_utility.proofs.utility_in.Statement.{statement}
 use Rattle.kernel_utility.proofs.utility_in.Tie as tie

@@ -3,7 +3,7 @@ use Rattle.rules.proofs.Kit.{refl, _∙_, needs}
 use Rattle.rules.specs.Printed.{printOf, printBuffer}
 use Rattle.splice.proofs.Pieces.{patched-start}
 use Rattle.rules.proofs.Faults.{room-enough, room-short}
-use Rattle.stored_fields.proofs.Buffers.{stays}
+use Rattle.stored_layout.proofs.Buffers.{stays}
 use Rattle.program_deliver.proofs.deliver.Statement.{statement}
 use Rattle.program_deliver.proofs.deliver.Tie as tie
 

@@ -1,7 +1,7 @@
 -- `program_input::policy_in` meets its contract. Assumes nothing.
 use Rattle.rules.proofs.Kit.{_∙_, arith}
 use Rattle.rules.specs.Records.{policyWith}
-use Rattle.stored_fields.proofs.Lengths.{policy-length}
+use Rattle.stored_layout.proofs.Lengths.{policy-length}
 use Rattle.program_input.proofs.{Tests.fields, policy_in.Statement.statement}
 use Rattle.program_input.proofs.policy_in.Tie as tie
 

@@ -1,7 +1,7 @@
 -- `program_input::request_in` meets its contract. Assumes nothing.
 use Rattle.rules.proofs.Kit.{ℕ, _≡_, ap, _∙_, List, arith, now}
 use Rattle.rules.specs.{Records.inputOf, Stored.bodyOf, Stored.afterOf, Stored.afterDue}
-use Rattle.stored_fields.proofs.Lengths.{request-length}
+use Rattle.stored_layout.proofs.Lengths.{request-length}
 use Rattle.program_input.proofs.{Tests.afterBank, Tests.fields, request_in.Statement.statement}
 use Rattle.program_input.proofs.request_in.Tie as tie
 

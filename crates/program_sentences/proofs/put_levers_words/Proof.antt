@@ -2,7 +2,7 @@
 use Rattle.rules.proofs.Kit.{ℕ, _≤_, _-_, _+_, _*_, _≡_, sym, ap, _∙_, map, arith, needs, now, length, take, length-map}
 use Rattle.rules.specs.{Numbers.toldEntry, Words.leversWords}
 use Rattle.splice.proofs.Pieces.{written-none, written-then, written-as, written, promised-as, Written}
-use Rattle.program_lines.proofs.Joins.{levers-all}
+use Rattle.program_lever_lines.proofs.Joins.{levers-all}
 use Rattle.program_sentences.proofs.{Joins.words-none, Joins.words-more, put_levers_words.Statement.statement}
 use Rattle.program_sentences.proofs.put_levers_words.Tie as tie
 

@@ -1,6 +1,6 @@
 -- `text::put_byte` meets its contract. Assumes nothing.
 use Rattle.rules.proofs.Kit.{[], _∷_, arith, needs}
-use Rattle.endian.proofs.Stored.{stored-patch}
+use Rattle.endian_writing.proofs.Stored.{stored-patch}
 use Rattle.splice.proofs.Pieces.{written-one, promised}
 use Rattle.text.proofs.put_byte.Statement.{statement}
 use Rattle.text.proofs.put_byte.Tie as tie

@@ -1,7 +1,7 @@
 -- `text::put_signed` meets its contract. Assumes nothing.
 use Rattle.rules.proofs.Kit.{ℕ, _+_, _-_, _≤_, _≡_, ap, _∙_, List, _++_, arith, needs, length, w64, ofZ}
 use Rattle.rules.specs.Text.{decimal}
-use Rattle.endian.proofs.Signs.{signed-bits}
+use Rattle.endian_signs.proofs.Signs.{signed-bits}
 use Rattle.splice.proofs.Pieces.{written-then, written, promised-as}
 use Rattle.text.proofs.{Digits.decimal-twenty, Digits.decimal-nineteen, Digits.signed-up, Digits.signed-down, Words.minus-text}
 use Rattle.text.proofs.{put_signed.Statement.statement}

@@ -1,7 +1,7 @@
 -- `text::put_signed_word` meets its contract. Assumes nothing.
 use Rattle.rules.proofs.Kit.{ap, _∙_, [], _∷_, arith, needs, ℤ}
 use Rattle.rules.specs.Text.{signedDecimal, spaced}
-use Rattle.endian.proofs.Signs.{signed-bits}
+use Rattle.endian_signs.proofs.Signs.{signed-bits}
 use Rattle.splice.proofs.Pieces.{written-then, written, promised-as}
 use Rattle.text.proofs.{Words.spaced-one, put_signed_word.Statement.statement}
 use Rattle.text.proofs.put_signed_word.Tie as tie

@@ -1,7 +1,8 @@
 -- `counterfactual_opening::opened` meets its contract. Assumes nothing.
 use Rattle.rules.proofs.Kit.{arith, sym, _∙_, needs}
 use Rattle.kernel_scan.proofs.Scanning.{start-room}
-use Rattle.kernel_decide.proofs.{Stops.open-decision, Stops.stopped-decision, Wholes.whole-state, Wholes.whole-decides}
+use Rattle.kernel_stop.proofs.Stops.{open-decision, stopped-decision}
+use Rattle.kernel_decide.proofs.Wholes.{whole-state, whole-decides}
 use Rattle.counterfactual_opening.proofs.{Opening.open-top, Opening.stopped-top, open.opened.Statement.statement}
 use Rattle.counterfactual_opening.proofs.open.opened.Tie as tie
 

@@ -1,7 +1,7 @@
 -- `explain_entries::entry_bytes` meets its contract: each write fills in one more field. Assumes nothing.
 use Rattle.rules.proofs.Kit.{_≡_, refl, ap, _∙_, arith, lit≤, replicate, length-set, w64, ofZ, toZ-ofZ, needs}
 use Rattle.rules.specs.{Limits.explanationBytes, Wide.val, Explain.explanationRecord}
-use Rattle.endian.proofs.Stored.{byte-patch}
+use Rattle.endian_writing.proofs.Stored.{byte-patch}
 use Rattle.packing.proofs.Packing.{laid-none, laid-more, laid-all}
 use Rattle.explain_entries.proofs.entry.entry_bytes.Statement.{statement}
 use Rattle.explain_entries.proofs.entry.entry_bytes.Tie as tie

@@ -3,7 +3,7 @@ use Rattle.rules.proofs.Kit.{refl, needs}
 use Rattle.rules.specs.declared.refusal.Outcome.the-variants.{Refused}
 use Rattle.rules.specs.Stored.{writeStoredOf, writeStoredBuffer}
 use Rattle.rules.proofs.Faults.{append-refused, none-told}
-use Rattle.unpacking.proofs.Policies.{policy-long}
+use Rattle.unpacking_policy.proofs.Policies.{policy-long}
 use Rattle.export_checks.proofs.Handed.{tests-refused}
 use Rattle.export_forms.proofs.{Answering.written-so, forms.stored_form_delivered.Statement.statement}
 use Rattle.export_forms.proofs.forms.stored_form_delivered.Tie as tie

@@ -1,7 +1,8 @@
 -- `kernel_decide::decide` meets its contract. Assumes nothing.
 use Rattle.rules.proofs.Kit.{arith, sym, _∙_, needs}
-use Rattle.kernel_decide.proofs.{Stops.open-decision, Stops.stopped-decision, Wholes.whole-decides, decide.decide.Statement.statement}
+use Rattle.kernel_stop.proofs.Stops.{open-decision, stopped-decision}
 use Rattle.kernel_scan.proofs.Scanning.{start-room}
+use Rattle.kernel_decide.proofs.{Wholes.whole-decides, decide.decide.Statement.statement}
 use Rattle.kernel_decide.proofs.decide.decide.Tie as tie
 
 returns : tie.Need-returns

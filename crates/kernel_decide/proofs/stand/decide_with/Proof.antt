@@ -1,6 +1,7 @@
 -- `kernel_decide::decide_with` meets its contract. Assumes nothing.
 use Rattle.rules.proofs.Kit.{arith, sym, _∙_, needs}
-use Rattle.kernel_decide.proofs.{Stops.open-decision, Stops.stopped-decision, Wholes.parts-decide, stand.decide_with.Statement.statement}
+use Rattle.kernel_stop.proofs.Stops.{open-decision, stopped-decision}
+use Rattle.kernel_decide.proofs.{Wholes.parts-decide, stand.decide_with.Statement.statement}
 use Rattle.kernel_decide.proofs.stand.decide_with.Tie as tie
 
 returns : tie.Need-returns

@@ -1,8 +1,8 @@
 -- `pricing::settle::prefix_of` meets its contract: 48 bits and 16 make 64. Assumes nothing.
 use Rattle.rules.proofs.Kit.{sym, arith}
-use Rattle.rules.proofs.Choices.{below-yes, below-no}
+use Rattle.rules.proofs.{Limbs.product-le, Choices.below-yes, Choices.below-no}
 use Rattle.pricing.specs.Pricing.{prefixOf}
-use Rattle.pricing.proofs.{Values.product-le, settle.prefix_of.Statement.statement}
+use Rattle.pricing.proofs.settle.prefix_of.Statement.{statement}
 use Rattle.pricing.proofs.settle.prefix_of.Tie as tie
 
 mul-result : tie.Need-mul-result

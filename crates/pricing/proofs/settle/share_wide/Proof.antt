@@ -1,7 +1,8 @@
 -- `pricing::settle::share_wide` meets its contract: the two shares may be multiplied first. Assumes nothing.
 use Rattle.rules.proofs.Kit.{ap, _∙_, _/_, arith, needs}
+use Rattle.rules.proofs.Limbs.{product-le}
 use Rattle.rules.specs.Limits.{scaledBasisPoints}
-use Rattle.pricing.proofs.{Values.product-le, Values.wide-is, Values.share-of-product, settle.share_wide.Statement.statement}
+use Rattle.pricing.proofs.{Values.wide-is, Values.share-of-product, settle.share_wide.Statement.statement}
 use Rattle.pricing.proofs.settle.share_wide.Tie as tie
 
 mul-shares : tie.Need-mul-shares

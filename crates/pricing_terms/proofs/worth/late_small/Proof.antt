@@ -1,6 +1,6 @@
 -- `pricing_terms::worth::late_small` meets its contract: 32 bits and 32 make 64. Assumes nothing.
 use Rattle.rules.proofs.Kit.{arith, needs}
-use Rattle.pricing.proofs.Values.{product-le}
+use Rattle.rules.proofs.Limbs.{product-le}
 use Rattle.pricing_terms.proofs.worth.late_small.Statement.{statement}
 use Rattle.pricing_terms.proofs.worth.late_small.Tie as tie
 

@@ -2,8 +2,8 @@
 use Rattle.rules.proofs.Kit.{_≡_, ap, ap₂, _∙_, _+_, _*_, _^_, _<_, arith, needs}
 use Rattle.rules.specs.{Wide.val, Wide.limbs, Utility.shareOf}
 use Rattle.pricing_terms.specs.{Score.scoreOf, Terms.scoredTerms}
-use Rattle.rules.proofs.Limbs.{wide-val}
-use Rattle.pricing.proofs.Values.{product-le, share-lt, wide-is}
+use Rattle.rules.proofs.Limbs.{product-le, wide-val}
+use Rattle.pricing.proofs.Values.{share-lt, wide-is}
 use Rattle.pricing_terms.proofs.worth.terms_exact.Statement.{statement}
 use Rattle.pricing_terms.proofs.worth.terms_exact.Tie as tie
 

@@ -2,7 +2,7 @@
 use Rattle.rules.proofs.Kit.{ℕ, _≡_, refl, ap, _∙_, List, arith, needs, now, length}
 use Rattle.rules.proofs.Faults.{none-told}
 use Rattle.rules.specs.{Records.policyWith, Stored.bodyOf, Stored.storedBank, Stored.readStoredOf, Stored.readStoredBuffer}
-use Rattle.stored_fields.proofs.{Buffers.stays, Lengths.policy-length}
+use Rattle.stored_layout.proofs.{Buffers.stays, Lengths.policy-length}
 use Rattle.stored.proofs.{Reading.CatalogFields, Reading.catalog-fields, Reading.reading-refused, Reading.reading-short, Reading.reading-none}
 use Rattle.stored.proofs.{Reading.stored-read, catalog.read_stored.Statement.statement}
 use Rattle.stored.proofs.catalog.read_stored.Tie as tie

@@ -6,7 +6,7 @@ use Rattle.rules.proofs.Faults.{none-told}
 use Rattle.packing.proofs.Trips.{length-numbers}
 use Rattle.splice.proofs.Pieces.{written-then, written-as, written}
 use Rattle.stored.specs.Writing.{formSize, writingFaults}
-use Rattle.stored_fields.proofs.Buffers.{fills, stays}
+use Rattle.stored_layout.proofs.Buffers.{fills, stays}
 use Rattle.stored.proofs.{Writing.length-field, Writing.writing-refuses, Writing.writing-room, catalog.write_stored.Statement.statement}
 use Rattle.stored.proofs.catalog.write_stored.Tie as tie
 

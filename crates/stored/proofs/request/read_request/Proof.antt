@@ -2,7 +2,7 @@
 use Rattle.rules.proofs.Kit.{ℕ, _≡_, refl, sym, ap, _∙_, List, [], _∷_, arith, needs, now}
 use Rattle.rules.specs.{Refused.refused, Records.inputOf, Stored.formFaults, Stored.readRequestOf}
 use Rattle.rules.proofs.Faults.{unless-refused, none-told}
-use Rattle.stored_fields.proofs.{OneField.Passed, Forms.form-passed, Lengths.request-length}
+use Rattle.stored_layout.proofs.{Passing.Passed, Forms.form-passed, Lengths.request-length}
 use Rattle.stored.proofs.{Reading.request-read, request.read_request.Statement.statement}
 use Rattle.stored.proofs.request.read_request.Tie as tie
 

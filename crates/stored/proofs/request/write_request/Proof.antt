@@ -3,7 +3,7 @@ use Rattle.rules.proofs.Kit.{refl, ap, arith, needs}
 use Rattle.rules.specs.Stored.{fieldBytes, requestForm, writeRequestOf, writeRequestBuffer}
 use Rattle.splice.proofs.Pieces.{written-as, written}
 use Rattle.rules.proofs.Faults.{room-enough, room-short}
-use Rattle.stored_fields.proofs.Buffers.{fills, stays}
+use Rattle.stored_layout.proofs.Buffers.{fills, stays}
 use Rattle.stored.proofs.{Writing.length-request, request.write_request.Statement.statement}
 use Rattle.stored.proofs.request.write_request.Tie as tie
 

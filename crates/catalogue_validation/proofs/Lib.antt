@@ -1,0 +1,3 @@
+-- The laws of the tests, and of the call.
+pub mod Walks
+pub mod Answers

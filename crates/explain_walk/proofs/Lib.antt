@@ -1,0 +1,3 @@
+-- Laws of the walk over an explanation.
+pub mod Walk
+pub mod Answers

@@ -1,0 +1,2 @@
+-- The laws of stops, which callers cite.
+pub mod Stops

@@ -1,0 +1,2 @@
+-- What stops a request.
+pub mod Stop

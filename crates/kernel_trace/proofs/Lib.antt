@@ -1,0 +1,2 @@
+-- The law of a decision with its trace.
+pub mod Traces

@@ -1,0 +1,2 @@
+-- Laws of the lines, which callers cite.
+pub mod Joins

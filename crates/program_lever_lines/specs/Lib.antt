@@ -1,0 +1,2 @@
+-- A part of a line.
+pub mod Pieces

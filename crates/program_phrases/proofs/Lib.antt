@@ -1,0 +1,2 @@
+-- The law of a share's pieces.
+pub mod Joins

@@ -1,0 +1,7 @@
+-- Rows by what they show: layouts, gates, counts, reasons and refusals; loading; forms and printing; rounding once; the largest banks.
+mod Literals
+mod Vectors
+mod Loading
+mod Printing
+mod RoundingRows
+mod Sizes

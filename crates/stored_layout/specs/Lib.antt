@@ -1,0 +1,2 @@
+-- What the reader of forms tells, and what it asks.
+pub mod Layout
