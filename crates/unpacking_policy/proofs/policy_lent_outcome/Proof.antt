@@ -1,5 +1,5 @@
 -- `unpacking_policy::policy_lent_outcome` meets its contract. Assumes nothing.
-use Rattle.rules.proofs.Kit.{now, arith, eq-eqb, ne-eqb, lt-ltb, le-ltb, drop-of-length-le, needs}
+use Rattle.rules.proofs.Kit.{now, arith, eq-eqb, ne-eqb, lt-ltb, le-ltb, getD, drop-of-length-le, needs}
 use Rattle.rules.specs.{Bytes.number, Refused.toldOutcome, Refused.firstFault, Stored.policySizeFaults, Stored.roundingFaults}
 use Rattle.endian.proofs.Spelled.{byte-at}
 use Rattle.unpacking_policy.proofs.policy_lent_outcome.Statement.{statement}
@@ -19,14 +19,16 @@ unfolding toldOutcome firstFault policySizeFaults roundingFaults
 returns-3 c =
     let b = c .before .before in
     let s = b .before .before .args in
-    rw (ne-eqb _ _ (b .before .if1 .left), eq-eqb _ _ (b .if2 .left), ← byte-at (now (s .bytes)) 30 (omega arith), lt-ltb _ _ (c .if3 .taken))
+    let last = lt-ltb 1 (getD (now (s .bytes)) 30 0) (omega (arith, c .if3 .taken)) in
+    rw (ne-eqb _ _ (b .before .if1 .left), eq-eqb _ _ (b .if2 .left), ← byte-at (now (s .bytes)) 30 (omega arith), last)
 
 returns-4 : tie.Need-returns-4
 unfolding toldOutcome firstFault policySizeFaults roundingFaults
 returns-4 c =
     let b = c .before .before in
     let s = b .before .before .args in
-    rw (ne-eqb _ _ (b .before .if1 .left), eq-eqb _ _ (b .if2 .left), ← byte-at (now (s .bytes)) 30 (omega arith), le-ltb _ _ (c .if3 .left))
+    let last = le-ltb 1 (getD (now (s .bytes)) 30 0) (omega (arith, c .if3 .left)) in
+    rw (ne-eqb _ _ (b .before .if1 .left), eq-eqb _ _ (b .if2 .left), ← byte-at (now (s .bytes)) 30 (omega arith), last)
 
 pub policy-lent-outcome-spec : {M : Type 1} → statement M
 policy-lent-outcome-spec = tie.close (tie.spec returns returns-2 (λ c. search needs) returns-3 returns-4)
