@@ -22,13 +22,27 @@
  * the bank begins tag 4, and without one the policy rounds apart. So of a stored form 01 1f 00 09 is 22, 09 1e 00 00 is 21, 01 1e 00 is 20; and after
  * its bank 04 is 20, 05 is 21, 04 02 00 is 22, 04 01 00 00 is 23, and 04 01 00 01 twice is 21.
  *
+ * Models may be swapped one by one, with no transfer of the rest. The records of a bank are slots then: live where the id is not 0, free where all
+ * 47 bytes are 0; id 0 with another byte set is refused with 34. A bank of zeros has free slots alone, and zeros after a bank's records are room.
+ * The calls volankizo_live_.. take such a bank. Those that ask run over its live records alone, as if it listed nothing else: a place is a slot, the
+ * models evaluated and the entries of an explanation are live ones, and id 0 is nowhere. Where an id is listed twice, its first live record is
+ * meant. Every other call decides any bank as before: an all-zero record is a switched-off model there.
+ * An edit adds a record, or replaces or removes one by its id; a compaction closes the gaps. Each raises the catalogue epoch by one, in place, in
+ * the policy's bytes that it is lent. Of a record the id alone is looked at; volankizo_validate tells whether it may serve.
+ * A compaction tells how many records are live, and these stand first then: the bank to store, to validate or to trust is 47 times so many bytes. Free
+ * slots would go along as all-zero records: two of them repeat id 0, so that the programs, as volankizo_validate, refuse such a stored form with
+ * 12; and volankizo_trust refuses a single one with 16.
+ *
  * Every function takes any bytes. It answers 0 and writes its answer to the start of `out`, or answers a refusal and writes nothing (but for
- * volankizo_trust, see there); bytes of `out` after the answer stay as they were. A buffer that is written overlaps nothing else that is lent.
+ * volankizo_trust, see there); bytes of `out` after the answer stay as they were. A buffer that is written overlaps nothing else that is lent:
+ * of an edit that is the policy, the bank and `out`, so that the record offered to it stands elsewhere.
  * Of several refusals the first in the order given with each function comes back, of a form's the first in the order above:
- *   22  a policy is neither 30 bytes long nor 31, or a request not 70; in a form, a field has a length that its tag does not have
+ *   22  a policy is neither 30 bytes long nor 31, a request not 70, or a record that is offered not 47; in a form, a field has a length that its
+ *       tag does not have
  *   23  the 31st byte of a policy is neither 0 nor 1; in a form, the body of tag 4 is not 1
  *    1  the bank's length is no multiple of 47
  *    2  the bank has more than 65,535 records
+ *   34  (of the calls volankizo_live_.. alone) a slot has id 0 and another byte set
  *    4  a buffer is too short for what it is to hold
  *    3  risk (field 1), confidence (2) or minimum quality (3) is above 10,000; with the field and the value
  *    5  the id is not listed
@@ -37,16 +51,18 @@
  *    8  the place is beyond the bank
  *   10  hard risk limit (field 4) or minimum confidence (5) is above 10,000, or the multiplier (6) above 50,000; with the field and the value
  *   11  the bank has no record
- *   12  an id that an earlier record has; with the id
+ *   12  an id that an earlier record has, or of a record to add, that a live one has; with the id
  *   13  a provider above 63; with the id and the provider
  *   14  a quality (field 7) or a ceiling (8) above 10,000; with the field, the id and the value
  *   15  no record has enabled other than 0
- *   16  some id is 0
+ *   16  some id is 0; of an edit, the one that is added, replaced or removed
  *   17  enabled is above 1; with the id and the value
  *   18  the bank has more than 1,394 records, too many for a stored form
  *   19  (as a program's text alone) the input has more than 900 models
  *   20  a form ends within a field
  *   21  a form has another tag where a field is due, or no byte, or a byte after its last field
+ *   27  the catalogue epoch is 2^64 - 1 and can't be raised
+ *   28  no slot is free
  * as number + 2^8 * field + 2^16 * value + 2^32 * (id or place), each 0 where none is told, see the macros below. A place would be that of a
  * request in a batch, told with 3; no call here takes a batch, so it is always 0.
  *
@@ -85,6 +101,7 @@ extern "C" {
 #define VOLANKIZO_EXPLANATION_BYTES 72
 #define VOLANKIZO_BOUNDARY_BYTES 183
 #define VOLANKIZO_OFFSET_BYTES 8
+#define VOLANKIZO_EDIT_BYTES 2
 #define VOLANKIZO_FIELD_HEADER_BYTES 3
 #define VOLANKIZO_MAX_STORED_MODELS 1394
 #define VOLANKIZO_ROUNDING_FIELD_BYTES 4
@@ -197,6 +214,57 @@ uint64_t volankizo_ask_text(const uint8_t *input, size_t input_len, uint32_t id,
 /* The same in words, as `ask ID words` prints it: a sentence for each lever, or one that says why there is none. 808 bytes always suffice.
  * Refusals: 4. */
 uint64_t volankizo_ask_words(const uint8_t *input, size_t input_len, uint32_t id, uint8_t *out, size_t out_len);
+
+/* Over live records alone, the slot as place, from here on. Decides: 83 bytes, as volankizo_prescribe. Refusals: 22 (of the policy or of the
+ * request), 23, 1, 2, 34, 4. */
+uint64_t volankizo_live_prescribe(const uint8_t *policy, size_t policy_len, const uint8_t *request, size_t request_len, const uint8_t *bank,
+                                  size_t bank_len, uint8_t *out, size_t out_len);
+
+/* The same for a checked request. Refusals: 22, 23, 1, 2, 34, 4, 3. */
+uint64_t volankizo_live_prescribe_checked(const uint8_t *policy, size_t policy_len, const uint8_t *request, size_t request_len,
+                                          const uint8_t *bank, size_t bank_len, uint8_t *out, size_t out_len);
+
+/* Decides, 65 bytes of `out`, and tells what became of every live record: the entries of volankizo_explain, 72 bytes of `list` for each live
+ * record, none for a free slot and no gap between them, each with its slot as place; none where the request is stopped by 100 or 101.
+ * volankizo_next_eligible takes such a list too. Bytes of `list` after the last entry stay. Refusals: 22, 23, 1, 2, 34, 4 (of `out`, then of
+ * `list`). */
+uint64_t volankizo_live_explain(const uint8_t *policy, size_t policy_len, const uint8_t *request, size_t request_len, const uint8_t *bank,
+                                size_t bank_len, uint8_t *list, size_t list_len, uint8_t *out, size_t out_len);
+
+/* The slot of the first live record with an id: 2 bytes, u16; 65,535 where there is none, as for id 0. Refusals: 1, 2, 34, 4. */
+uint64_t volankizo_live_find(const uint8_t *bank, size_t bank_len, uint32_t id, uint8_t *out, size_t out_len);
+
+/* The utility of the first live record with an id: 8 bytes, i64. Refusals: 22, 23, 1, 2, 34, 4, 7 (always of id 0). */
+uint64_t volankizo_live_utility_for_model(const uint8_t *policy, size_t policy_len, const uint8_t *request, size_t request_len,
+                                          const uint8_t *bank, size_t bank_len, uint32_t id, uint8_t *out, size_t out_len);
+
+/* For a live model that was not selected: the 183 bytes of volankizo_what_would_win. Refusals: 22, 23, 1, 2, 34, 4, 5 (always of id 0). */
+uint64_t volankizo_live_what_would_win(const uint8_t *policy, size_t policy_len, const uint8_t *request, size_t request_len,
+                                       const uint8_t *bank, size_t bank_len, uint32_t id, uint8_t *out, size_t out_len);
+
+/* For the model that was selected: the 183 bytes of volankizo_decision_margin. Refusals: 22, 23, 1, 2, 34, 4, 6. */
+uint64_t volankizo_live_decision_margin(const uint8_t *policy, size_t policy_len, const uint8_t *request, size_t request_len,
+                                        const uint8_t *bank, size_t bank_len, uint8_t *out, size_t out_len);
+
+/* Adds a record, 47 bytes, in the lowest free slot. Written, where it is not refused: in `policy` the catalogue epoch, u64 at 8, one higher; in
+ * `bank` the slot's 47 bytes; in `out` 2 bytes, the slot u16. All other bytes of the three stay, and refused all of them do.
+ * Refusals: 22 (of the record or of the policy), 23, 1, 2, 34, 4, 16, 27, 12, 28. */
+uint64_t volankizo_live_add(uint8_t *policy, size_t policy_len, uint8_t *bank, size_t bank_len, const uint8_t *record, size_t record_len,
+                            uint8_t *out, size_t out_len);
+
+/* Puts a record, 47 bytes, in place of the first live one with its id. Written as by volankizo_live_add, also where the slot had these bytes.
+ * Refusals: 22 (of the record or of the policy), 23, 1, 2, 34, 4, 16, 27, 5. */
+uint64_t volankizo_live_replace(uint8_t *policy, size_t policy_len, uint8_t *bank, size_t bank_len, const uint8_t *record, size_t record_len,
+                                uint8_t *out, size_t out_len);
+
+/* Frees the slot of the first live record with an id. Written as by volankizo_live_add, the slot's 47 bytes with 0. Refusals: 22, 23, 1, 2, 34,
+ * 4, 16, 27, 5. */
+uint64_t volankizo_live_remove(uint8_t *policy, size_t policy_len, uint8_t *bank, size_t bank_len, uint32_t id, uint8_t *out, size_t out_len);
+
+/* Closes the gaps: the live records stand first, in their order, and free slots after them. Written, where it is not refused: in `policy` the
+ * catalogue epoch, u64 at 8, one higher, also where nothing moves; the bank; in `out` 2 bytes, how many records are live u16. A decision before
+ * it and one after it differ in the place and in the catalogue epoch alone. Refusals: 22, 23, 1, 2, 34, 4, 27. */
+uint64_t volankizo_live_compact(uint8_t *policy, size_t policy_len, uint8_t *bank, size_t bank_len, uint8_t *out, size_t out_len);
 
 #ifdef __cplusplus
 }

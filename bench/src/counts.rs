@@ -1,7 +1,7 @@
 //! Instructions of one run of each side of each row, which valgrind's callgrind counts. The count is the same in every run and whatever else
 //! the machine does, so it tells a change of the code that a time would leave in doubt.
 use crate::clock::Side;
-use crate::rows::{self, Checked};
+use crate::rows::{self, Checked, SIDES};
 use std::collections::HashMap;
 use std::fs;
 use std::hint::black_box;
@@ -14,12 +14,14 @@ fn bench_counted(side: &mut Side) {
     black_box(side);
 }
 
-/// Runs each side of the rows once and prints a line for it: the row's name, and how many models the run went over.
+/// Runs each side of the rows once and prints a line for it: the row's name, how many models the run went over, and which side it is.
 pub fn once(only: &str) {
     rows::each(only, Checked::No, &mut |mut row| {
-        for side in &mut row.sides {
-            bench_counted(side);
-            println!("{}\t{}\t{}\t{}", row.call, row.records, row.mix, row.models);
+        for (at, side) in row.sides.iter_mut().enumerate() {
+            if let Some(side) = side {
+                bench_counted(side);
+                println!("{}\t{}\t{}\t{}\t{at}", row.call, row.records, row.mix, row.models);
+            }
         }
     });
 }
@@ -27,7 +29,7 @@ pub fn once(only: &str) {
 /// The rows in their order, and for each the instructions a model of its sides, to two decimals as docs/SPEED.md has them.
 pub struct Counts {
     pub order: Vec<String>,
-    pub of: HashMap<String, Vec<f64>>,
+    pub of: HashMap<String, [Option<f64>; SIDES]>,
 }
 
 /// From the lines of `once` and what callgrind wrote beside them.
@@ -40,11 +42,12 @@ pub fn read(lines: &str, parts: &str) -> Counts {
     for (line, total) in text.lines().zip(totals) {
         let fields: Vec<&str> = line.split('\t').collect();
         let name = fields[..3].join(" | ");
-        let models: f64 = fields[3].parse().expect("a line ends with the number of models");
+        let models: f64 = fields[3].parse().expect("the number of models");
+        let side: usize = fields[4].parse().expect("a line ends with the number of its side");
         if !counts.of.contains_key(&name) {
             counts.order.push(name.clone());
         }
-        counts.of.entry(name).or_default().push((100.0 * total / models).round() / 100.0);
+        counts.of.entry(name).or_default()[side] = Some((100.0 * total / models).round() / 100.0);
     }
     counts
 }

@@ -73,9 +73,78 @@ extern "C" {
     fn volankizo_unit_text(i: Bytes, il: usize, o: Lent, on: usize) -> u64;
     fn volankizo_ask_text(i: Bytes, il: usize, id: u32, o: Lent, on: usize) -> u64;
     fn volankizo_ask_words(i: Bytes, il: usize, id: u32, o: Lent, on: usize) -> u64;
+    fn volankizo_live_prescribe(
+        p: Bytes,
+        pn: usize,
+        q: Bytes,
+        qn: usize,
+        b: Bytes,
+        bn: usize,
+        o: Lent,
+        on: usize,
+    ) -> u64;
+    fn volankizo_live_prescribe_checked(
+        p: Bytes,
+        pn: usize,
+        q: Bytes,
+        qn: usize,
+        b: Bytes,
+        bn: usize,
+        o: Lent,
+        on: usize,
+    ) -> u64;
+    fn volankizo_live_explain(
+        p: Bytes,
+        pn: usize,
+        q: Bytes,
+        qn: usize,
+        b: Bytes,
+        bn: usize,
+        l: Lent,
+        ln: usize,
+        o: Lent,
+        on: usize,
+    ) -> u64;
+    fn volankizo_live_find(b: Bytes, bn: usize, id: u32, o: Lent, on: usize) -> u64;
+    fn volankizo_live_utility_for_model(
+        p: Bytes,
+        pn: usize,
+        q: Bytes,
+        qn: usize,
+        b: Bytes,
+        bn: usize,
+        id: u32,
+        o: Lent,
+        on: usize,
+    ) -> u64;
+    fn volankizo_live_what_would_win(
+        p: Bytes,
+        pn: usize,
+        q: Bytes,
+        qn: usize,
+        b: Bytes,
+        bn: usize,
+        id: u32,
+        o: Lent,
+        on: usize,
+    ) -> u64;
+    fn volankizo_live_decision_margin(
+        p: Bytes,
+        pn: usize,
+        q: Bytes,
+        qn: usize,
+        b: Bytes,
+        bn: usize,
+        o: Lent,
+        on: usize,
+    ) -> u64;
+    fn volankizo_live_add(p: Lent, pn: usize, b: Lent, bn: usize, r: Bytes, rn: usize, o: Lent, on: usize) -> u64;
+    fn volankizo_live_replace(p: Lent, pn: usize, b: Lent, bn: usize, r: Bytes, rn: usize, o: Lent, on: usize) -> u64;
+    fn volankizo_live_remove(p: Lent, pn: usize, b: Lent, bn: usize, id: u32, o: Lent, on: usize) -> u64;
+    fn volankizo_live_compact(p: Lent, pn: usize, b: Lent, bn: usize, o: Lent, on: usize) -> u64;
 }
 
-/// What is lent to every call but `validate` and `trust`.
+/// What is lent to every call that reads a policy, a request and a bank.
 #[derive(Clone, Copy)]
 pub struct Question<'a> {
     pub policy: &'a [u8],
@@ -119,6 +188,79 @@ pub fn decision_margin(q: Question, out: &mut [u8]) -> u64 {
     unsafe { volankizo_decision_margin(p.as_ptr(), p.len(), r.as_ptr(), r.len(), b.as_ptr(), b.len(), o, on) }
 }
 
+pub fn utility_for_model(q: Question, id: u32, out: &mut [u8]) -> u64 {
+    let (p, r, b, o) = (q.policy, q.request, q.bank, black_box(out));
+    let (o, on) = (o.as_mut_ptr(), o.len());
+    unsafe { volankizo_utility_for_model(p.as_ptr(), p.len(), r.as_ptr(), r.len(), b.as_ptr(), b.len(), id, o, on) }
+}
+
+pub fn find(bank: &[u8], id: u32, out: &mut [u8]) -> u64 {
+    let o = black_box(out);
+    unsafe { volankizo_find(bank.as_ptr(), bank.len(), id, o.as_mut_ptr(), o.len()) }
+}
+
+/// The calls on live records, as their siblings above.
+pub mod live {
+    use super::*;
+
+    pub fn prescribe(q: Question, out: &mut [u8]) -> u64 {
+        let (p, r, b, o) = (q.policy, q.request, q.bank, black_box(out));
+        let (o, on) = (o.as_mut_ptr(), o.len());
+        unsafe { volankizo_live_prescribe(p.as_ptr(), p.len(), r.as_ptr(), r.len(), b.as_ptr(), b.len(), o, on) }
+    }
+
+    pub fn explain(q: Question, list: &mut [u8], out: &mut [u8]) -> u64 {
+        let (p, r, b, l, o) = (q.policy, q.request, q.bank, black_box(list), black_box(out));
+        let (l, ln, o, on) = (l.as_mut_ptr(), l.len(), o.as_mut_ptr(), o.len());
+        unsafe { volankizo_live_explain(p.as_ptr(), p.len(), r.as_ptr(), r.len(), b.as_ptr(), b.len(), l, ln, o, on) }
+    }
+
+    pub fn find(bank: &[u8], id: u32, out: &mut [u8]) -> u64 {
+        let o = black_box(out);
+        unsafe { volankizo_live_find(bank.as_ptr(), bank.len(), id, o.as_mut_ptr(), o.len()) }
+    }
+
+    pub fn utility_for_model(q: Question, id: u32, out: &mut [u8]) -> u64 {
+        let (p, r, b, o) = (q.policy, q.request, q.bank, black_box(out));
+        let (b, bn, o, on) = (b.as_ptr(), b.len(), o.as_mut_ptr(), o.len());
+        unsafe { volankizo_live_utility_for_model(p.as_ptr(), p.len(), r.as_ptr(), r.len(), b, bn, id, o, on) }
+    }
+
+    pub fn what_would_win(q: Question, id: u32, out: &mut [u8]) -> u64 {
+        let (p, r, b, o) = (q.policy, q.request, q.bank, black_box(out));
+        let (b, bn, o, on) = (b.as_ptr(), b.len(), o.as_mut_ptr(), o.len());
+        unsafe { volankizo_live_what_would_win(p.as_ptr(), p.len(), r.as_ptr(), r.len(), b, bn, id, o, on) }
+    }
+
+    pub fn decision_margin(q: Question, out: &mut [u8]) -> u64 {
+        let (p, r, b, o) = (q.policy, q.request, q.bank, black_box(out));
+        let (b, bn, o, on) = (b.as_ptr(), b.len(), o.as_mut_ptr(), o.len());
+        unsafe { volankizo_live_decision_margin(p.as_ptr(), p.len(), r.as_ptr(), r.len(), b, bn, o, on) }
+    }
+
+    pub fn add(policy: &mut [u8], bank: &mut [u8], record: &[u8], out: &mut [u8]) -> u64 {
+        let (p, b, o) = (black_box(policy), black_box(bank), black_box(out));
+        let (p, pn, b, bn) = (p.as_mut_ptr(), p.len(), b.as_mut_ptr(), b.len());
+        unsafe { volankizo_live_add(p, pn, b, bn, record.as_ptr(), record.len(), o.as_mut_ptr(), o.len()) }
+    }
+
+    pub fn replace(policy: &mut [u8], bank: &mut [u8], record: &[u8], out: &mut [u8]) -> u64 {
+        let (p, b, o) = (black_box(policy), black_box(bank), black_box(out));
+        let (p, pn, b, bn) = (p.as_mut_ptr(), p.len(), b.as_mut_ptr(), b.len());
+        unsafe { volankizo_live_replace(p, pn, b, bn, record.as_ptr(), record.len(), o.as_mut_ptr(), o.len()) }
+    }
+
+    pub fn remove(policy: &mut [u8], bank: &mut [u8], id: u32, out: &mut [u8]) -> u64 {
+        let (p, b, o) = (black_box(policy), black_box(bank), black_box(out));
+        unsafe { volankizo_live_remove(p.as_mut_ptr(), p.len(), b.as_mut_ptr(), b.len(), id, o.as_mut_ptr(), o.len()) }
+    }
+
+    pub fn compact(policy: &mut [u8], bank: &mut [u8], out: &mut [u8]) -> u64 {
+        let (p, b, o) = (black_box(policy), black_box(bank), black_box(out));
+        unsafe { volankizo_live_compact(p.as_mut_ptr(), p.len(), b.as_mut_ptr(), b.len(), o.as_mut_ptr(), o.len()) }
+    }
+}
+
 macro_rules! addresses {
     ($($name:ident)*) => {
         /// The name and the address of each function.
@@ -146,4 +288,15 @@ addresses! {
     volankizo_unit_text
     volankizo_ask_text
     volankizo_ask_words
+    volankizo_live_prescribe
+    volankizo_live_prescribe_checked
+    volankizo_live_explain
+    volankizo_live_find
+    volankizo_live_utility_for_model
+    volankizo_live_what_would_win
+    volankizo_live_decision_margin
+    volankizo_live_add
+    volankizo_live_replace
+    volankizo_live_remove
+    volankizo_live_compact
 }

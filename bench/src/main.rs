@@ -6,12 +6,13 @@
 mod clock;
 mod counts;
 mod library;
+mod live;
 mod mixes;
 mod rows;
 mod stack;
 mod table;
 
-use clock::median;
+use clock::{median, Side};
 use rows::{Checked, Row};
 use std::hint::black_box;
 use std::process::exit;
@@ -57,16 +58,21 @@ fn hold(words: &[String]) {
 }
 
 /// One line: the call, the models, the mix, then for each side the median of its nanoseconds a model, then for each side but ours the
-/// median of the rounds' ratios.
-fn show(mut row: Row, rounds: usize) {
-    let times = clock::rounds(&mut row.sides, rounds);
+/// median of the rounds' ratios. A side that isn't there has a dash.
+fn show(row: Row, rounds: usize) {
+    let there = row.sides.each_ref().map(Option::is_some);
+    let mut sides: Vec<Side> = row.sides.into_iter().flatten().collect();
+    let mut timed = clock::rounds(&mut sides, rounds).into_iter();
+    let times = there.map(|is| is.then(|| timed.next().expect("a list of times for each side")));
     let mut line = format!("{}\t{}\t{}", row.call, row.records, row.mix);
+    let cell = |number: Option<String>| number.map_or("\t-".to_string(), |number| format!("\t{number}"));
     for side in &times {
-        line += &format!("\t{:.3}", median(side) / row.models);
+        line += &cell(side.as_ref().map(|side| format!("{:.3}", median(side) / row.models)));
     }
+    let ours = times[0].as_ref().expect("every row has ours");
+    let ratio = |side: &Vec<f64>| median(&ours.iter().zip(side).map(|(ours, other)| ours / other).collect::<Vec<_>>());
     for side in &times[1..] {
-        let ratios: Vec<f64> = times[0].iter().zip(side).map(|(ours, rust)| ours / rust).collect();
-        line += &format!("\t{:.4}", median(&ratios));
+        line += &cell(side.as_ref().map(|side| format!("{:.4}", ratio(side))));
     }
     println!("{line}");
 }

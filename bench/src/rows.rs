@@ -1,7 +1,8 @@
 //! The rows: a call on a bank, answered by the library and by the Rust. Before a row is timed, the library's answer to each of its
-//! questions is held against the one that the comparison says is owed.
+//! questions is held against the one that the comparison says is owed. Rows of live banks are in `live`.
 use crate::clock::Side;
 use crate::library::{self, Question};
+use crate::live;
 use crate::mixes::Mix;
 use compare::calls::{Answer, CALLS, EXPLAIN, MARGIN, PRESCRIBE, TRUST, VALIDATE, WIN};
 use compare::case::Case;
@@ -13,17 +14,19 @@ use oracle::counterfactual;
 use oracle::kernel::{KernelModel, PolicySnapshot};
 use std::hint::black_box;
 
-/// A row's name, how many models one run of a side goes over in all, and its sides: ours, the Rust's, and where there are two
-/// counterparts the Rust's plain one.
+/// A row's name, how many models one run of a side goes over in all, and its sides: ours, the Rust's, and where there is another counterpart that
+/// one: the Rust's plain call, or of a call on live records our own on every record. What has no counterpart has fewer.
 pub struct Row<'a> {
     pub call: &'static str,
     pub records: usize,
     pub mix: &'a str,
     pub models: f64,
-    pub sides: Vec<Side<'a>>,
+    pub sides: [Option<Side<'a>>; SIDES],
 }
 
-const OUT: usize = 183;
+pub const SIDES: usize = 3;
+
+pub const OUT: usize = 183;
 
 /// Whether the answers to a row's questions are held against those owed before it is visited. They need not be where the row is only
 /// counted, under valgrind, which makes all of it some fifty times slower.
@@ -51,6 +54,7 @@ pub fn each(only: &str, checked: Checked, visit: &mut dyn FnMut(Row)) {
             mixes.iter().for_each(|&mix| row(Asked::of(call, mix, records, checked), visit));
         }
     }
+    live::each(&wanted, checked, visit);
     for (call, row) in [("validate", validate as fn(&str, &mut dyn FnMut(Row))), ("trust", trust)] {
         for order in ["in order", "shuffled", "reversed"] {
             if wanted(call, UNIT) {
@@ -64,47 +68,53 @@ pub fn each(only: &str, checked: Checked, visit: &mut dyn FnMut(Row)) {
 const ONCE: &str = "prescribe once";
 
 /// A short list, the unit's, and the longest.
-const SIZES: [usize; 3] = [22, UNIT, 65_535];
-const UNIT: usize = 900;
+pub const SIZES: [usize; 3] = [22, UNIT, 65_535];
+pub const UNIT: usize = 900;
 
 /// The more models and passes, the fewer requests: a margin over the longest list takes the Rust up to half a second.
 fn requests(call: &str, records: usize) -> usize {
-    match (call, records) {
+    match (call.strip_prefix("live ").unwrap_or(call), records) {
         ("explain", _) => 4,
-        (_, 22) | ("prescribe" | ONCE, UNIT) => 16,
+        (_, 22) | ("prescribe" | "utility" | ONCE, UNIT) => 16,
         ("prescribe", _) | (_, UNIT) => 2,
         _ => 1,
     }
 }
 
-/// The questions of a row in the form of each side.
-struct Asked {
+/// The questions of a row in the form of each side. The Rust has the models that are listed; the settings have one for each slot.
+pub struct Asked {
     call: &'static str,
-    mix: Mix,
+    mix: &'static str,
     checked: Checked,
-    settings: Vec<Setting>,
-    snapshot: PolicySnapshot,
+    pub settings: Vec<Setting>,
+    pub snapshot: PolicySnapshot,
     cases: Vec<Case>,
-    bank: Vec<u8>,
+    pub bank: Vec<u8>,
 }
 
 impl Asked {
-    fn of(call: &'static str, mix: Mix, records: usize, checked: Checked) -> Self {
+    pub fn of(call: &'static str, mix: Mix, records: usize, checked: Checked) -> Self {
         let mut settings = mix.settings(records, requests(call, records));
         if call == ONCE {
             settings.iter_mut().for_each(|setting| setting.policy.rounding = Rounding::Once);
         }
         let cases = settings.iter().map(|setting| Case { bank: Vec::new(), ..setting.case(0) }).collect();
         let (snapshot, bank) = (settings[0].snapshot(), bank_bytes(&settings[0].models));
-        Asked { call, mix, checked, settings, snapshot, cases, bank }
+        Asked { call, mix: mix.name(), checked, settings, snapshot, cases, bank }
     }
 
-    fn records(&self) -> usize {
+    /// The same over this bank, of which the Rust has these models.
+    pub fn over(self, mix: &'static str, bank: Vec<u8>, models: Vec<KernelModel>) -> Self {
+        let snapshot = self.settings[0].policy.with(models);
+        Asked { mix, bank, snapshot, ..self }
+    }
+
+    pub fn records(&self) -> usize {
         self.settings[0].models.len()
     }
 
-    fn row<'a>(&self, sides: Vec<Side<'a>>) -> Row<'a> {
-        let (records, mix) = (self.records(), self.mix.name());
+    pub fn row<'a>(&self, sides: [Option<Side<'a>>; SIDES]) -> Row<'a> {
+        let (records, mix) = (self.records(), self.mix);
         Row { call: self.call, records, mix, models: (records * self.cases.len()) as f64, sides }
     }
 
@@ -113,26 +123,26 @@ impl Asked {
     }
 
     /// The library answers all questions.
-    fn all(&self, mut answer: impl FnMut(Question) -> u64) {
+    pub fn all(&self, mut answer: impl FnMut(Question) -> u64) {
         for at in 0..self.cases.len() {
             black_box(answer(black_box(self.question(at))));
         }
     }
 
     /// The Rust answers them.
-    fn rust<T>(&self, answer: impl Fn(&PolicySnapshot, oracle::kernel::KernelInput) -> T) {
+    pub fn rust<T>(&self, answer: impl Fn(&PolicySnapshot, oracle::kernel::KernelInput) -> T) {
         for setting in &self.settings {
             black_box(answer(&self.snapshot, black_box(setting.request)));
         }
     }
 
     /// Ends the program where the library's answer isn't the one owed.
-    fn check(&self, call: usize, id: u32, ours: impl Fn(Question) -> Answered) {
+    pub fn check(&self, call: usize, id: u32, ours: impl Fn(Question) -> Answered) {
         if self.checked == Checked::No {
             return;
         }
         for (at, setting) in self.settings.iter().enumerate() {
-            let case = setting.case(id);
+            let case = Case { bank: self.bank.clone(), ..setting.case(id) };
             let owed = CALLS[call].owed(&CALLS[call].ask(&case));
             assert_eq!(owed.refusal, None, "{}: a row's questions are answered", CALLS[call].name);
             assert!(
@@ -146,10 +156,10 @@ impl Asked {
 
 /// What a call hands back and writes.
 #[derive(PartialEq)]
-struct Answered {
-    word: u64,
-    out: Vec<u8>,
-    list: Vec<u8>,
+pub struct Answered {
+    pub word: u64,
+    pub out: Vec<u8>,
+    pub list: Vec<u8>,
 }
 
 impl Answered {
@@ -157,7 +167,7 @@ impl Answered {
         Answered { word: owed.word(), out: owed.out.clone(), list: owed.list.clone() }
     }
 
-    fn written(need: usize, call: impl FnOnce(&mut [u8]) -> u64) -> Self {
+    pub fn written(need: usize, call: impl FnOnce(&mut [u8]) -> u64) -> Self {
         let mut out = vec![0; need];
         Answered { word: call(&mut out), out, list: Vec::new() }
     }
@@ -169,7 +179,7 @@ fn prescribe(asked: Asked, visit: &mut dyn FnMut(Row)) {
     let ours = Box::new(|| asked.all(|q| library::prescribe(q, &mut out)));
     let traced = Box::new(|| asked.rust(|p, q| p.prescribe_with_trace(q)));
     let plain = Box::new(|| asked.rust(|p, q| p.prescribe(q)));
-    visit(asked.row(vec![ours, traced, plain]));
+    visit(asked.row([Some(ours), Some(traced), Some(plain)]));
 }
 
 fn margin(asked: Asked, visit: &mut dyn FnMut(Row)) {
@@ -177,7 +187,7 @@ fn margin(asked: Asked, visit: &mut dyn FnMut(Row)) {
     let mut out = [0; OUT];
     let ours = Box::new(|| asked.all(|q| library::decision_margin(q, &mut out)));
     let rust = Box::new(|| asked.rust(counterfactual::decision_margin));
-    visit(asked.row(vec![ours, rust]));
+    visit(asked.row([Some(ours), Some(rust), None]));
 }
 
 fn win(asked: Asked, visit: &mut dyn FnMut(Row)) {
@@ -186,11 +196,11 @@ fn win(asked: Asked, visit: &mut dyn FnMut(Row)) {
     let mut out = [0; OUT];
     let ours = Box::new(|| asked.all(|q| library::what_would_win(q, id, &mut out)));
     let rust = Box::new(|| asked.rust(|p, q| counterfactual::what_would_win(p, q, id)));
-    visit(asked.row(vec![ours, rust]));
+    visit(asked.row([Some(ours), Some(rust), None]));
 }
 
 /// An eligible model in the middle of the bank, which wins by none of the requests.
-fn runner_up(asked: &Asked) -> u32 {
+pub fn runner_up(asked: &Asked) -> u32 {
     let explanation = asked.snapshot.explain(asked.settings[0].request);
     let chosen: Vec<u32> =
         asked.settings.iter().map(|s| asked.snapshot.prescribe(s.request).selected_model_id).collect();
@@ -207,7 +217,7 @@ fn explain(asked: Asked, visit: &mut dyn FnMut(Row)) {
     let (mut list, mut out) = buffers();
     let ours = Box::new(|| asked.all(|q| library::explain(q, &mut list, &mut out)));
     let rust = Box::new(|| asked.rust(|p, q| p.explain(q)));
-    visit(asked.row(vec![ours, rust]));
+    visit(asked.row([Some(ours), Some(rust), None]));
 }
 
 /// A bank that may serve, in ascending order of its ids, in descending order, or in any.
@@ -231,18 +241,21 @@ fn validate(order: &str, visit: &mut dyn FnMut(Row)) {
         black_box(library::validate(black_box(&policy), &bank));
     });
     let rust = Box::new(|| drop(black_box(black_box(&snapshot).validate())));
-    visit(Row { call: "validate", records: UNIT, mix: order, models: UNIT as f64, sides: vec![ours, rust] });
+    visit(Row {
+        call: "validate",
+        records: UNIT,
+        mix: order,
+        models: UNIT as f64,
+        sides: [Some(ours), Some(rust), None],
+    });
 }
 
 /// Both sides begin with a copy of the bank as it came, since both change it.
 fn trust(order: &str, visit: &mut dyn FnMut(Row)) {
     let setting = listed(order);
     let (policy, bank) = (policy_bytes(&setting.policy), bank_bytes(&setting.models));
-    // At a multiple of 64: a copy takes more or fewer instructions by where it begins.
     let mut room = vec![0; bank.len() + 63];
-    let start = room.as_ptr().align_offset(64);
-    let lent = &mut room[start..][..bank.len()];
-    lent.copy_from_slice(&bank);
+    let lent = lent_copy(&bank, &mut room);
     let owed = CALLS[TRUST].owed(&CALLS[TRUST].ask(&setting.case(0)));
     assert!(library::trust(&policy, lent) == owed.word() && lent == owed.bank, "trust isn't answered as owed");
     let ours = Box::new(|| {
@@ -250,7 +263,15 @@ fn trust(order: &str, visit: &mut dyn FnMut(Row)) {
         black_box(library::trust(&policy, lent));
     });
     let rust = Box::new(|| drop(black_box(trusted(black_box(&setting)))));
-    visit(Row { call: "trust", records: UNIT, mix: order, models: UNIT as f64, sides: vec![ours, rust] });
+    visit(Row { call: "trust", records: UNIT, mix: order, models: UNIT as f64, sides: [Some(ours), Some(rust), None] });
+}
+
+/// A copy of a bank in a room that has 63 bytes more: at a multiple of 64, since a copy takes more or fewer instructions by where it begins.
+pub fn lent_copy<'a>(bank: &[u8], room: &'a mut [u8]) -> &'a mut [u8] {
+    let start = room.as_ptr().align_offset(64);
+    let lent = &mut room[start..][..bank.len()];
+    lent.copy_from_slice(bank);
+    lent
 }
 
 fn trusted(setting: &Setting) -> Result<PolicySnapshot, oracle::kernel::TrustPolicyError> {

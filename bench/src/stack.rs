@@ -3,9 +3,10 @@
 use crate::library::ADDRESSES;
 use crate::mixes::Mix;
 use compare::calls::{Call, Handed, CALLS};
+use compare::generate::live::FREE;
 use compare::generate::random::Random;
 use compare::generate::Setting;
-use compare::second::bytes::{bank_bytes, policy_bytes, request_bytes};
+use compare::second::bytes::{bank_bytes, model_of, policy_bytes, request_bytes};
 use compare::second::rules::Rounding;
 use std::arch::asm;
 use std::collections::BTreeSet;
@@ -64,6 +65,8 @@ fn asked(call: &Call, setting: &Setting, id: u32) -> (u64, usize) {
     let (mut policy, mut request) = (policy_bytes(&setting.policy), request_bytes(&setting.request));
     let (mut bank, mut out) = (bank_bytes(&setting.models), vec![0u8; 4096]);
     let mut list = vec![0u8; 72 * setting.models.len()];
+    let mut record = bank_bytes(&[setting.models[0]]);
+    record[..4].copy_from_slice(&id.to_le_bytes());
     let mut form = call.ask(&setting.case(id)).form;
     let mut arguments = Vec::new();
     let slice = |bytes: &mut [u8]| [bytes.as_mut_ptr() as usize, bytes.len()];
@@ -73,6 +76,7 @@ fn asked(call: &Call, setting: &Setting, id: u32) -> (u64, usize) {
             Policy => arguments.extend(slice(&mut policy)),
             Request => arguments.extend(slice(&mut request)),
             Bank => arguments.extend(slice(&mut bank)),
+            Record => arguments.extend(slice(&mut record)),
             Out => arguments.extend(slice(&mut out)),
             List | Listed => arguments.extend(slice(&mut list)),
             Form => arguments.extend(slice(&mut form)),
@@ -85,10 +89,11 @@ fn asked(call: &Call, setting: &Setting, id: u32) -> (u64, usize) {
     depth(address(), &arguments)
 }
 
-/// The deepest of a call on all settings, for each model where it takes an id. A refusal is shallow: one question at least is answered.
+/// The deepest of a call on all settings, for each model and for none where it takes an id or a record. A refusal is shallow: one question at least is answered.
 fn deepest(call: &Call, settings: &[Setting]) -> usize {
-    let ids = |setting: &Setting| match call.takes.contains(&Handed::Id) {
-        true => setting.models.iter().map(|model| model.model_id).collect(),
+    let by_id = call.takes.contains(&Handed::Id) || call.takes.contains(&Handed::Record);
+    let ids = |setting: &Setting| match by_id {
+        true => setting.models.iter().map(|model| model.model_id).chain([u32::MAX]).collect(),
         false => vec![setting.models[0].model_id],
     };
     let all: Vec<(u64, usize)> =
@@ -99,7 +104,8 @@ fn deepest(call: &Call, settings: &[Setting]) -> usize {
 
 /// Every mix, so that the ways by two limbs are among them. Each as it is, in disorder, so that the ordering is among them, and then with the
 /// highest latency for every model and no limit on it, which is the widest range of a search. Each of these once more with providers that
-/// a bank may have, since one that doesn't validate prints nothing but its refusal. And all of them with a policy that rounds once.
+/// a bank may have, since one that doesn't validate prints nothing but its refusal. All of these with every third slot free, which calls on every
+/// record take for a model that is off. And all of them with a policy that rounds once.
 fn settings() -> Vec<Setting> {
     let mut all: Vec<Setting> = Mix::ALL.iter().flat_map(|mix| mix.settings(22, 4)).collect();
     for mut setting in all.clone() {
@@ -112,6 +118,10 @@ fn settings() -> Vec<Setting> {
     }
     for mut setting in all.clone() {
         setting.models.iter_mut().for_each(|model| model.provider_id %= 64);
+        all.push(setting);
+    }
+    for mut setting in all.clone() {
+        setting.models.iter_mut().step_by(3).for_each(|model| *model = model_of(&FREE));
         all.push(setting);
     }
     for mut setting in all.clone() {

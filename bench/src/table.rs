@@ -2,11 +2,13 @@
 //! instructions of one, since they are the same in all. And one of instructions alone, beside those that docs/SPEED.md has.
 use crate::clock::median;
 use crate::counts::Counts;
+use crate::rows::SIDES;
 use std::collections::HashMap;
 use std::fs;
 
-/// The numbers that the outputs have for one row: a list for each column.
-type Columns = Vec<Vec<f64>>;
+/// The numbers that the outputs have for one row: a list for each column, empty where a side isn't there. First the sides, then all but ours once
+/// more for the ratios.
+type Columns = [Vec<f64>; 2 * SIDES - 1];
 
 const HEAD: &str =
     "Call | Models | Mix | Ours, ns | Rust, ns | Ratio | Lowest, highest | Ours, instr. | Rust, instr. | \
@@ -15,7 +17,7 @@ const HEAD: &str =
 const OURS: usize = 7;
 
 /// A line for each row: its name, then for ours and the Rust's the nanoseconds a model, the ratio with its range over the places, and the
-/// instructions a model; then the same of the Rust's plain call where there is one.
+/// instructions a model; then the same of the other counterpart, where there is one.
 pub fn print(counts: &Counts, files: &[String]) {
     let rows = times(files);
     head(HEAD);
@@ -41,8 +43,9 @@ fn times(files: &[String]) -> HashMap<String, Columns> {
         let text = fs::read_to_string(file).unwrap_or_else(|e| panic!("{file}: {e}"));
         for line in text.lines() {
             let fields: Vec<&str> = line.split('\t').collect();
-            let columns = rows.entry(fields[..3].join(" | ")).or_insert_with(|| vec![Vec::new(); fields.len() - 3]);
-            for (column, field) in columns.iter_mut().zip(&fields[3..]) {
+            let columns = rows.entry(fields[..3].join(" | ")).or_default();
+            assert_eq!(fields.len(), 3 + columns.len(), "a line has a field for each column");
+            for (column, field) in columns.iter_mut().zip(&fields[3..]).filter(|(_, field)| **field != "-") {
                 column.push(field.parse().expect("a line has numbers from its fourth field on"));
             }
         }
@@ -50,20 +53,18 @@ fn times(files: &[String]) -> HashMap<String, Columns> {
     rows
 }
 
-fn line(name: &str, columns: &Columns, counts: &[f64]) {
-    let at = |column: usize| median(&columns[column]);
-    let sides = counts.len();
-    assert_eq!(columns.len(), 2 * sides - 1, "a time for each side, and a ratio for each but ours");
-    let ratios = &columns[sides];
+fn line(name: &str, columns: &Columns, counts: &[Option<f64>; SIDES]) {
+    let at = |column: usize| match &columns[column][..] {
+        [] => String::new(),
+        numbers => format!("{:.2}", median(numbers)),
+    };
+    let count = |side: usize| counts[side].map_or(String::new(), |count| format!("{count:.2}"));
+    let ratios = &columns[SIDES];
     let least = ratios.iter().copied().fold(f64::INFINITY, f64::min);
     let most = ratios.iter().copied().fold(0.0, f64::max);
-    let plain = match counts.get(2) {
-        Some(plain) => format!("{:.2} | {:.2} | {plain:.2}", at(2), at(4)),
-        None => " |  | ".to_string(),
-    };
-    let (ours, rust) = (counts[0], counts[1]);
-    print!("| {name} | {:.2} | {:.2} | {:.2} | {least:.2}, {most:.2} ", at(0), at(1), at(sides));
-    println!("| {ours:.2} | {rust:.2} | {plain} |");
+    let range = if ratios.is_empty() { String::new() } else { format!("{least:.2}, {most:.2}") };
+    print!("| {name} | {} | {} | {} | {range} ", at(0), at(1), at(SIDES));
+    println!("| {} | {} | {} | {} | {} |", count(0), count(1), at(2), at(SIDES + 1), count(2));
 }
 
 /// A line for each row with the instructions a model, and those that `file` (docs/SPEED.md) has for ours. Hands back how many rows have
@@ -73,10 +74,12 @@ pub fn hold(counts: &Counts, file: &str) -> usize {
     let mut above = 0;
     head("Call | Models | Mix | Ours, instr. | Recorded | Change | Rust, instr.");
     for name in &counts.order {
-        let (ours, rust) = (counts.of[name][0], counts.of[name][1]);
+        let [ours, rust, _] = counts.of[name];
+        let ours = ours.expect("every row has ours");
+        let rust = rust.map_or(String::new(), |rust| format!("{rust:.2}"));
         let before = recorded.get(name);
         let change = before.map_or("none | ".to_string(), |b| format!("{b:.2} | {:+.2}%", 100.0 * (ours / b - 1.0)));
-        println!("| {name} | {ours:.2} | {change} | {rust:.2} |");
+        println!("| {name} | {ours:.2} | {change} | {rust} |");
         above += usize::from(before.is_none_or(|before| ours > *before));
     }
     above

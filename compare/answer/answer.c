@@ -29,7 +29,9 @@ typedef u64 exported(u64, u64, u64, u64, u64, u64, u64, u64, u64, u64, u64, u64)
 exported volankizo_prescribe, volankizo_prescribe_checked, volankizo_utility_for_model, volankizo_find, volankizo_check_request,
     volankizo_explain, volankizo_next_eligible, volankizo_validate, volankizo_trust, volankizo_what_would_win, volankizo_decision_margin,
     volankizo_record_at, volankizo_write_stored, volankizo_read_stored, volankizo_write_request, volankizo_read_request,
-    volankizo_unit_text, volankizo_ask_text, volankizo_ask_words;
+    volankizo_unit_text, volankizo_ask_text, volankizo_ask_words, volankizo_live_prescribe, volankizo_live_prescribe_checked,
+    volankizo_live_explain, volankizo_live_find, volankizo_live_utility_for_model, volankizo_live_what_would_win,
+    volankizo_live_decision_margin, volankizo_live_add, volankizo_live_replace, volankizo_live_remove, volankizo_live_compact;
 
 static const struct {
     const char *name;
@@ -54,6 +56,17 @@ static const struct {
     {"unit_text", volankizo_unit_text},
     {"ask_text", volankizo_ask_text},
     {"ask_words", volankizo_ask_words},
+    {"live_prescribe", volankizo_live_prescribe},
+    {"live_prescribe_checked", volankizo_live_prescribe_checked},
+    {"live_explain", volankizo_live_explain},
+    {"live_find", volankizo_live_find},
+    {"live_utility_for_model", volankizo_live_utility_for_model},
+    {"live_what_would_win", volankizo_live_what_would_win},
+    {"live_decision_margin", volankizo_live_decision_margin},
+    {"live_add", volankizo_live_add},
+    {"live_replace", volankizo_live_replace},
+    {"live_remove", volankizo_live_remove},
+    {"live_compact", volankizo_live_compact},
 };
 
 enum { SYS_READ = 0, SYS_WRITE = 1, SYS_MMAP = 9, SYS_MPROTECT = 10, SYS_EXIT = 60 };

@@ -53,8 +53,13 @@ impl FromIterator<KernelModel> for Bank {
 pub fn find(bank: &[u8], model_id: u32) -> Result<Option<u16>, Refusal> {
     let mut out = [0; PLACE_BYTES];
     Refusal::told(ffi::find(bank, model_id, &mut out))?;
-    let place = u16::from_le_bytes(out);
-    Ok((place != u16::MAX).then_some(place))
+    Ok(place(out))
+}
+
+/// The place that finding tells; 65,535 is none.
+pub(crate) fn place(answer: [u8; PLACE_BYTES]) -> Option<u16> {
+    let place = u16::from_le_bytes(answer);
+    (place != u16::MAX).then_some(place)
 }
 
 /// The record at a place: that very part of the bank, not a copy. Refusals: 1, 2, 8.

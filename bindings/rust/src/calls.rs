@@ -52,12 +52,7 @@ impl PolicySnapshot {
 
     /// Decides, and tells what became of each model. Refusals: 1, 2.
     pub fn explain(&self, bank: &[u8], input: KernelInput) -> Result<Explanation, Refusal> {
-        // A longer bank is refused before the list is looked at.
-        let models = (bank.len() / RECORD_BYTES).min(MAX_CATALOG_MODELS);
-        let mut list = vec![0; models * EXPLANATION_BYTES];
-        let decision = self.explain_into(bank, input, &mut list)?;
-        let entries = list.chunks_exact(EXPLANATION_BYTES).take(decision.evaluated_models.into());
-        Ok(Explanation { decision, candidates: entries.map(told).collect() })
+        explained(bank.len() / RECORD_BYTES, |list| self.explain_into(bank, input, list))
     }
 
     /// The same into a lent list of 72 bytes a model, which [`CandidateExplanation::from_bytes`] reads: as many entries as the
@@ -113,7 +108,19 @@ pub fn decision_margin(policy: &PolicySnapshot, bank: &[u8], input: KernelInput)
     Ok(Counterfactual::told(&out).into())
 }
 
-fn traced(answer: &[u8; DECISION_BYTES]) -> (KernelDecision, DecisionTrace) {
+/// What a call tells that fills a list with room for so many entries, as many as its decision evaluated.
+pub(crate) fn explained(
+    entries: usize,
+    fill: impl FnOnce(&mut [u8]) -> Result<KernelDecision, Refusal>,
+) -> Result<Explanation, Refusal> {
+    // A bank with more records is refused before the list is looked at.
+    let mut list = vec![0; entries.min(MAX_CATALOG_MODELS) * EXPLANATION_BYTES];
+    let decision = fill(&mut list)?;
+    let entries = list.chunks_exact(EXPLANATION_BYTES).take(decision.evaluated_models.into());
+    Ok(Explanation { decision, candidates: entries.map(told).collect() })
+}
+
+pub(crate) fn traced(answer: &[u8; DECISION_BYTES]) -> (KernelDecision, DecisionTrace) {
     let mut fields = Fields(answer);
     let decision = KernelDecision::taken(&mut fields);
     let rejections = RejectionHistogram::taken(&mut fields);

@@ -20,6 +20,8 @@ pub const PLACE_BYTES: usize = 2;
 pub const NEXT_BYTES: usize = 8;
 /// Where a record begins in a bank.
 pub const OFFSET_BYTES: usize = 8;
+/// What an edit tells, the slot that it wrote, or a compaction, how many records are live.
+pub const EDIT_BYTES: usize = 2;
 /// An entry of an explanation.
 pub const EXPLANATION_BYTES: usize = 72;
 /// The answer of a boundary search.

@@ -2,7 +2,7 @@
 //!
 //! Names and fields are those of the Rust that was ported; the models stand in a bank of packed bytes beside the policy, so a call
 //! takes both. A call either answers or tells the [`Refusal`]; no bytes make one panic. Each call's refusals are listed in the order in
-//! which the first one found comes back.
+//! which the first one found comes back. [`live`] is for a bank whose models are swapped between two requests.
 //!
 //! ```
 //! use volankizo::{Bank, KernelInput, KernelModel, PolicySnapshot, Rounding, ALL_PROVIDERS};
@@ -58,6 +58,7 @@ mod decision;
 #[allow(unsafe_code)]
 pub mod ffi;
 pub mod layout;
+pub mod live;
 mod printed;
 mod records;
 mod refusal;

@@ -14,7 +14,7 @@ pub enum Refusal {
     InputOutOfRange { field: u8, value: u16, place: u32 },
     /// 4: a list or buffer is too short for the answer.
     NoRoom,
-    /// 5: the id isn't listed.
+    /// 5: the id isn't listed; of a live call or an edit, no live record has it.
     UnknownModel,
     /// 6: the decision is a rejection.
     NothingSelected,
@@ -26,7 +26,7 @@ pub enum Refusal {
     PolicyOutOfRange { field: u8, value: u16 },
     /// 11: the bank has no record.
     EmptyCatalog,
-    /// 12: an earlier record has the id.
+    /// 12: an earlier record has the id; of a model to add, a live record has it.
     DuplicateModelId { model_id: u32 },
     /// 13: the provider is above 63.
     InvalidProviderId { model_id: u32, provider_id: u16 },
@@ -34,7 +34,7 @@ pub enum Refusal {
     ModelOutOfRange { field: u8, model_id: u32, value: u16 },
     /// 15: no record is switched on.
     NoEnabledModels,
-    /// 16: some id is 0.
+    /// 16: some id is 0; of an edit, the one that is added, replaced or removed.
     ReservedModelId,
     /// 17: enabled is above 1.
     InvalidEnabledFlag { model_id: u32, value: u8 },
@@ -44,10 +44,16 @@ pub enum Refusal {
     CutShort,
     /// 21: a field or a byte that isn't due, or one that is due and missing.
     WrongTag,
-    /// 22: a length that the field, the policy or the request doesn't have.
+    /// 22: a length that the field, the policy, the request or the offered record doesn't have.
     WrongLength,
     /// 23: a policy that rounds neither apart (0) nor once (1); in a form, a field of tag 4 whose body isn't 1.
     UnknownRounding,
+    /// 27: the catalogue epoch is at its largest, so that no edit can raise it.
+    EpochSpent,
+    /// 28: no slot is free for the model to add.
+    NoFreeSlot,
+    /// 34: a slot has id 0 and another byte set.
+    SlotNotClear,
 }
 
 impl Refusal {
@@ -80,6 +86,9 @@ impl Refusal {
             21 => Refusal::WrongTag,
             22 => Refusal::WrongLength,
             23 => Refusal::UnknownRounding,
+            27 => Refusal::EpochSpent,
+            28 => Refusal::NoFreeSlot,
+            34 => Refusal::SlotNotClear,
             _ => return None,
         }))
     }
@@ -113,6 +122,9 @@ impl Refusal {
             Refusal::WrongTag => 21,
             Refusal::WrongLength => 22,
             Refusal::UnknownRounding => 23,
+            Refusal::EpochSpent => 27,
+            Refusal::NoFreeSlot => 28,
+            Refusal::SlotNotClear => 34,
         }
     }
 }
@@ -131,7 +143,7 @@ impl Display for Refusal {
             Refusal::BeyondBank => write!(f, "the place is beyond the bank"),
             Refusal::PolicyOutOfRange { field, value } => write!(f, "the policy's {} is {value}", named(*field)),
             Refusal::EmptyCatalog => write!(f, "the bank has no model"),
-            Refusal::DuplicateModelId { model_id } => write!(f, "model {model_id} is listed twice"),
+            Refusal::DuplicateModelId { model_id } => write!(f, "model {model_id} is listed already"),
             Refusal::InvalidProviderId { model_id, provider_id } => {
                 write!(f, "model {model_id} has provider {provider_id}")
             }
@@ -139,13 +151,16 @@ impl Display for Refusal {
                 write!(f, "the {} of model {model_id} is {value}", named(*field))
             }
             Refusal::NoEnabledModels => write!(f, "no model is switched on"),
-            Refusal::ReservedModelId => write!(f, "a model has id 0"),
+            Refusal::ReservedModelId => write!(f, "id 0 is no model's"),
             Refusal::InvalidEnabledFlag { model_id, value } => write!(f, "enabled is {value} for model {model_id}"),
             Refusal::TooManyToStore => write!(f, "more than 1,394 models for a stored form"),
             Refusal::CutShort => write!(f, "the form ends inside a field"),
             Refusal::WrongTag => write!(f, "a field or a byte of the form isn't due, or is missing"),
             Refusal::WrongLength => write!(f, "a length is not that of its field"),
             Refusal::UnknownRounding => write!(f, "the policy rounds in a way that has no name"),
+            Refusal::EpochSpent => write!(f, "the catalogue epoch can't be raised"),
+            Refusal::NoFreeSlot => write!(f, "no slot of the bank is free"),
+            Refusal::SlotNotClear => write!(f, "a slot with id 0 has another byte set"),
         }
     }
 }

@@ -39,6 +39,18 @@ fn any_bank(source: &mut Source) -> Vec<u8> {
     bank
 }
 
+/// The same with slots that are free, and once in a while one that isn't clear.
+fn any_slots(source: &mut Source) -> Vec<u8> {
+    let mut bank = any_bank(source);
+    for slot in bank.chunks_exact_mut(RECORD_BYTES) {
+        if source.below(2) == 0 {
+            slot.fill(0);
+            slot[source.below(RECORD_BYTES)] = (source.below(16) == 0).into();
+        }
+    }
+    bank
+}
+
 fn any_request(source: &mut Source) -> Vec<u8> {
     if source.below(2) == 0 {
         return near(source, REQUEST_BYTES);
@@ -143,6 +155,48 @@ fn the_calls_as_they_are() {
         answered += answers.iter().filter(|answer| answer.is_ok()).count();
     }
     assert!(answered as u64 > 3 * ROUNDS, "{answered} of {} were answered", 15 * ROUNDS);
+}
+
+/// What an edit leaves of the policy and the bank: refused both, answered the policy's epoch raised and the bank as long as it was.
+fn edit(policy: &[u8], bank: &[u8], out: &mut [u8], call: impl Fn(&mut [u8], &mut [u8], &mut [u8]) -> u64) -> u64 {
+    let (mut raised, mut edited) = (policy.to_vec(), bank.to_vec());
+    let word = call(&mut raised, &mut edited, out);
+    match tells(word) {
+        Ok(()) => {
+            let epoch = u64::from_le_bytes(*policy[8..].first_chunk().unwrap());
+            assert_eq!(raised, [&policy[..8], &(epoch + 1).to_le_bytes(), &policy[16..]].concat());
+            let live = |bank: &[u8]| bank.chunks(RECORD_BYTES).filter(|slot| slot[..4] != [0; 4]).count();
+            assert!(live(&edited).abs_diff(live(bank)) <= 1, "one model more or less, if any");
+        }
+        Err(refusal) => assert_eq!((&raised[..], &edited[..]), (policy, bank), "{refusal}"),
+    }
+    word
+}
+
+#[test]
+fn the_live_calls_as_they_are() {
+    let mut answered = [0; 11];
+    for seed in 0..ROUNDS {
+        let source = &mut Source(seed);
+        let (policy, request, bank) = (any_policy(source), any_request(source), any_slots(source));
+        let record = if source.below(2) == 0 { common::FIRST.to_bytes().to_vec() } else { near(source, RECORD_BYTES) };
+        let (p, q, b, r, id) = (&policy[..], &request[..], &bank[..], &record[..], source.below(4) as u32);
+        let answers = [
+            ask(source, DECISION_BYTES, |out| ffi::live::prescribe(p, q, b, out)),
+            ask(source, DECISION_BYTES, |out| ffi::live::prescribe_checked(p, q, b, out)),
+            ask(source, UNCOUNTED_BYTES, |out| ffi::live::explain(p, q, b, &mut [0; 6 * EXPLANATION_BYTES], out)),
+            ask(source, PLACE_BYTES, |out| ffi::live::find(b, id, out)),
+            ask(source, UTILITY_BYTES, |out| ffi::live::utility_for_model(p, q, b, id, out)),
+            ask(source, BOUNDARY_BYTES, |out| ffi::live::what_would_win(p, q, b, id, out)),
+            ask(source, BOUNDARY_BYTES, |out| ffi::live::decision_margin(p, q, b, out)),
+            ask(source, EDIT_BYTES, |out| edit(p, b, out, |p, b, out| ffi::live::add(p, b, r, out))),
+            ask(source, EDIT_BYTES, |out| edit(p, b, out, |p, b, out| ffi::live::replace(p, b, r, out))),
+            ask(source, EDIT_BYTES, |out| edit(p, b, out, |p, b, out| ffi::live::remove(p, b, id, out))),
+            ask(source, EDIT_BYTES, |out| edit(p, b, out, ffi::live::compact)),
+        ];
+        answered.iter_mut().zip(answers).for_each(|(count, answer)| *count += u64::from(answer.is_ok()));
+    }
+    assert!(answered.iter().all(|count| *count > ROUNDS / 400), "{answered:?} of {ROUNDS} each were answered");
 }
 
 #[test]

@@ -1,27 +1,52 @@
-//! That this crate and `include/volankizo.h` speak of the same functions and the same sizes.
-use std::collections::{BTreeMap, BTreeSet};
+//! That this crate and `include/volankizo.h` speak of the same functions, argument by argument, and of the same sizes.
+use std::collections::BTreeMap;
 use volankizo::layout::*;
 use volankizo::{Rounding, MAX_STORED_MODELS};
 
 const HEADER: &str = include_str!("../../../include/volankizo.h");
-const DECLARED: &str = include_str!("../src/ffi.rs");
+const DECLARED: &str = concat!(include_str!("../src/ffi.rs"), include_str!("../src/ffi/live.rs"));
 
-/// The functions that stand in a text, each as the word `volankizo_..` right before a bracket, with the number of its arguments.
-fn functions(text: &str, before: &str) -> BTreeSet<(String, usize)> {
-    let declared = |rest: &str| {
+/// An argument: its name, and its type in Rust's words.
+type Argument = (&'static str, &'static str);
+
+/// The functions that stand in a text, each as the word `volankizo_..` right before a bracket, with what is read of its arguments in their order.
+fn functions(
+    text: &'static str,
+    before: &str,
+    read: fn(&'static str) -> Argument,
+) -> BTreeMap<&'static str, Vec<Argument>> {
+    let declared = |rest: &'static str| {
         let (name, rest) = rest.split_once('(')?;
         let named = name.bytes().all(|byte| byte.is_ascii_lowercase() || byte == b'_');
-        let arguments = rest.split_once(')')?.0.split(',').filter(|argument| !argument.trim().is_empty()).count();
-        named.then(|| (name.to_owned(), arguments))
+        let arguments = rest.split_once(')')?.0.split(',').map(str::trim).filter(|argument| !argument.is_empty());
+        named.then(|| (name, arguments.map(read).collect()))
     };
     text.split(before).skip(1).filter_map(declared).collect()
 }
 
+/// An argument in C: the name is the word at its end.
+fn in_c(argument: &'static str) -> Argument {
+    let at = argument.rfind([' ', '*']).map_or(0, |last| last + 1);
+    let rust = match argument[..at].trim() {
+        "const uint8_t *" => "*const u8",
+        "uint8_t *" => "*mut u8",
+        "size_t" => "usize",
+        "uint32_t" => "u32",
+        "uint64_t" => "u64",
+        other => panic!("{other}: a type that no function of the header has"),
+    };
+    (&argument[at..], rust)
+}
+
+fn in_rust(argument: &'static str) -> Argument {
+    argument.split_once(": ").unwrap_or_else(|| panic!("{argument} has no type"))
+}
+
 #[test]
 fn the_same_functions() {
-    let ours = functions(DECLARED, "fn volankizo_");
-    assert_eq!(ours, functions(HEADER, "uint64_t volankizo_"));
-    assert_eq!(ours.len(), 19);
+    let ours = functions(DECLARED, "fn volankizo_", in_rust);
+    assert_eq!(ours, functions(HEADER, "uint64_t volankizo_", in_c));
+    assert_eq!(ours.len(), 30);
 }
 
 /// The names that the header gives a number, with the numbers.
@@ -46,6 +71,7 @@ fn the_same_sizes() {
         ("PLACE_BYTES", PLACE_BYTES),
         ("NEXT_BYTES", NEXT_BYTES),
         ("OFFSET_BYTES", OFFSET_BYTES),
+        ("EDIT_BYTES", EDIT_BYTES),
         ("EXPLANATION_BYTES", EXPLANATION_BYTES),
         ("BOUNDARY_BYTES", BOUNDARY_BYTES),
         ("FIELD_HEADER_BYTES", FIELD_HEADER_BYTES),

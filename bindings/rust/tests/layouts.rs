@@ -1,10 +1,10 @@
 //! That every field of an answer is read from its own place: values that all differ, and all the verdicts.
 mod common;
-use common::{example_bank, Source, FIRST, POLICY, REQUEST};
+use common::{example_bank, slots, Source, FIRST, POLICY, REQUEST};
 use volankizo::layout::{BOUNDARY_BYTES, EXPLANATION_BYTES};
 use volankizo::{
-    ffi, next_eligible, Bank, CandidateExplanation, CandidateVerdict, GateKind, KernelInput, KernelModel, KernelReason,
-    PolicySnapshot, RejectionHistogram, Rounding,
+    ffi, live, next_eligible, Bank, CandidateExplanation, CandidateVerdict, GateKind, KernelDecision, KernelInput,
+    KernelModel, KernelReason, PolicySnapshot, RejectionHistogram, Rounding,
 };
 
 /// Every gate can be failed alone.
@@ -62,6 +62,23 @@ fn nine_different_counts() {
     assert_eq!(trace.rejections, counts);
     assert_eq!((trace.evaluated_models, trace.eligible_models), (46, 1));
     assert_eq!((decision.selected_model_index, decision.counterfactual_model_id), (45, 0));
+}
+
+/// The same with six free slots before each model: no count has them, and places take both of their bytes.
+#[test]
+fn nine_different_counts_between_free_slots() {
+    let models = failing();
+    let listed: Vec<_> = (0..9).flat_map(|way| vec![models[way]; way + 1]).chain([SOUND]).collect();
+    let bank =
+        slots(&listed.iter().flat_map(|model| [None, None, None, None, None, None, Some(*model)]).collect::<Vec<_>>());
+    let (decision, trace) = POLICY.prescribe_with_trace(&Bank::from_models(&listed), STRICT).unwrap();
+    let spread = KernelDecision { selected_model_index: 7 * 45 + 6, ..decision };
+    assert_eq!(live::prescribe_with_trace(&POLICY, &bank, STRICT), Ok((spread, trace)));
+    let told = live::explain(&POLICY, &bank, STRICT).unwrap();
+    let mut owed = POLICY.explain(&Bank::from_models(&listed), STRICT).unwrap().candidates;
+    owed.iter_mut().for_each(|entry| entry.model_index = 7 * entry.model_index + 6);
+    assert_eq!((told.decision, told.candidates), (spread, owed));
+    assert_eq!((live::find(&bank, 1), live::find(&bank, 2)), (Ok(Some(6)), Ok(None)));
 }
 
 #[test]

@@ -322,7 +322,7 @@ fn words_of_the_calls_on_bytes() {
 #[test]
 fn a_word_that_tells_nothing() {
     for number in 0..=255 {
-        let known = matches!(number, 1..=8 | 10..=18 | 20..=23);
+        let known = matches!(number, 1..=8 | 10..=18 | 20..=23 | 27 | 28 | 34);
         match Refusal::read(number) {
             Some(Ok(())) => assert_eq!(number, 0),
             Some(Err(refusal)) => assert!(known && u64::from(refusal.number()) == number),
@@ -338,11 +338,14 @@ fn a_word_that_tells_nothing() {
 #[test]
 fn a_refusal_says_what_is_wrong() {
     let said = POLICY.validate(&two(FIRST, FIRST)).unwrap_err().to_string();
-    assert_eq!(said, "refused 12: model 1 is listed twice");
+    assert_eq!(said, "refused 12: model 1 is listed already");
     let said = check_request(KernelInput { confidence_bps: 10_002, ..REQUEST }).unwrap_err().to_string();
     assert_eq!(said, "refused 3: the request's confidence_bps is 10002");
     let said = read_stored(&after_the_bank(&[4, 1, 0, 0])).unwrap_err().to_string();
     assert_eq!(said, "refused 23: the policy rounds in a way that has no name");
+    let said = [Refusal::EpochSpent, Refusal::NoFreeSlot, Refusal::SlotNotClear].map(|refusal| refusal.to_string());
+    let owed = ["27: the catalogue epoch can't", "28: no slot of the bank is free", "34: a slot with id 0 has another"];
+    assert!(said.iter().zip(owed).all(|(said, owed)| said.starts_with(&format!("refused {owed}"))), "{said:?}");
 }
 
 #[test]

@@ -2,6 +2,7 @@
 use crate::calls::Answer;
 use crate::form::{form_bytes, Damage};
 use crate::second::rules::Rules;
+use crate::second::slots::Listing;
 use std::cell::{Cell, OnceCell};
 use std::fmt;
 
@@ -23,10 +24,10 @@ impl Room {
     }
 }
 
-/// The list that `next_eligible` reads: the case's own explanation, or any bytes.
+/// The list that `next_eligible` reads: the case's own explanation, of every record or of the live ones, or any bytes.
 #[derive(Clone, Debug, PartialEq, Eq)]
 pub enum Listed {
-    Explained,
+    Explained(Listing),
     Bytes(Vec<u8>),
 }
 
@@ -44,6 +45,8 @@ pub struct Case {
     pub policy: Vec<u8>,
     pub request: Vec<u8>,
     pub bank: Vec<u8>,
+    /// The record that is offered to an edit.
+    pub record: Vec<u8>,
     pub id: u32,
     /// Of the buffer for the answer.
     pub room: Room,
@@ -60,9 +63,12 @@ pub struct Case {
 pub struct Ask<'a> {
     /// By which the library owes its answer.
     pub rules: Rules,
+    /// Which of the bank's records it is about.
+    pub listing: Listing,
     pub policy: &'a [u8],
     pub request: &'a [u8],
     pub bank: &'a [u8],
+    pub record: &'a [u8],
     pub id: u32,
     pub room: usize,
     pub list_room: usize,
@@ -76,13 +82,15 @@ pub struct Ask<'a> {
 }
 
 impl Case {
-    /// The case for a call whose form has these tags, before its rules and the rooms are known.
-    pub fn ask(&self, tags: &[u8]) -> Ask<'_> {
+    /// The case for a call that is about these records and whose form has these tags, before its rules and the rooms are known.
+    pub fn ask(&self, listing: Listing, tags: &[u8]) -> Ask<'_> {
         Ask {
             rules: Rules::RUST,
+            listing,
             policy: &self.policy,
             request: &self.request,
             bank: &self.bank,
+            record: &self.record,
             id: self.id,
             room: 0,
             list_room: 0,
@@ -116,8 +124,10 @@ impl fmt::Display for Case {
         writeln!(f, "policy  ({} bytes) {}", self.policy.len(), hex(&self.policy))?;
         writeln!(f, "request ({} bytes) {}", self.request.len(), hex(&self.request))?;
         writeln!(f, "bank    ({} bytes) {}", self.bank.len(), hex(&self.bank))?;
+        writeln!(f, "record  ({} bytes) {}", self.record.len(), hex(&self.record))?;
         match &self.listed {
-            Listed::Explained => writeln!(f, "list    the explanation of these")?,
+            Listed::Explained(Listing::Every) => writeln!(f, "list    the explanation of these")?,
+            Listed::Explained(Listing::Live) => writeln!(f, "list    the explanation of the live ones")?,
             Listed::Bytes(list) => writeln!(f, "list    ({} bytes) {}", list.len(), hex(list))?,
         }
         match &self.formed {

@@ -1,5 +1,8 @@
 //! What a run of cases reaches, in figures: a generator that misses a rule shows here.
-use crate::calls::{Answer, Call, ASK, CALLS, EXPLAIN, MARGIN, NEXT, PRESCRIBE, TRUST, UNIT, WIN, WORDS};
+use crate::calls::{
+    Answer, Call, ADD, ASK, CALLS, COMPACT, EXPLAIN, LIVE_EXPLAIN, LIVE_MARGIN, LIVE_PRESCRIBE, LIVE_WIN, MARGIN, NEXT,
+    PRESCRIBE, REMOVE, REPLACE, TRUST, UNIT, WIN, WORDS,
+};
 use crate::case::Case;
 use crate::second::boundaries::passes_and_levers;
 use crate::second::bytes::{models_of, policy_of, request_of, LONG_POLICY_BYTES, RECORD_BYTES};
@@ -8,6 +11,7 @@ use crate::second::explanation::{EXPLANATION_BYTES, NO_MORE};
 use crate::second::price::Terms;
 use crate::second::printed::LENGTH_BYTES;
 use crate::second::rules::{Rounding, Rules};
+use crate::second::slots::Slots;
 use oracle::kernel::KernelModel;
 use std::cmp::Reverse;
 use std::collections::{BTreeMap, BTreeSet};
@@ -44,9 +48,11 @@ impl Figures {
             }
             (_, Some(_)) => {}
             (PRESCRIBE, None) => self.note_decision(case, &owed.out),
-            (EXPLAIN, None) => self.note_verdicts(&owed.list),
+            (EXPLAIN | LIVE_EXPLAIN, None) => self.note_verdicts(call, &owed.list),
+            (LIVE_PRESCRIBE, None) => self.note_live(case, &owed.out),
+            (ADD | REPLACE | REMOVE | COMPACT, None) => self.note_edit(call, case, owed),
             (NEXT, None) if owed.out == NO_MORE.to_le_bytes() => self.find(call, "none"),
-            (WIN | MARGIN, None) => self.note_search(call, &owed.out),
+            (WIN | MARGIN | LIVE_WIN | LIVE_MARGIN, None) => self.note_search(call, &owed.out),
             (UNIT | ASK | WORDS, None) => self.note_text(call, &owed.out),
             _ => {}
         }
@@ -60,15 +66,15 @@ impl Figures {
     }
 
     /// Each verdict with its gate that is in a list.
-    fn note_verdicts(&mut self, list: &[u8]) {
+    fn note_verdicts(&mut self, call: usize, list: &[u8]) {
         let pairs: BTreeSet<(u8, u8)> = list.chunks_exact(EXPLANATION_BYTES).map(|it| (it[6], it[7])).collect();
         if pairs.is_empty() {
-            self.find(EXPLAIN, "no record");
+            self.find(call, "no record");
         }
         for (verdict, gate) in pairs {
             match gate {
-                0 => self.find(EXPLAIN, &format!("some with verdict {verdict}")),
-                _ => self.find(EXPLAIN, &format!("some with verdict {verdict}, gate {gate}")),
+                0 => self.find(call, &format!("some with verdict {verdict}")),
+                _ => self.find(call, &format!("some with verdict {verdict}, gate {gate}")),
             }
         }
     }
@@ -86,6 +92,53 @@ impl Figures {
         self.find(call, &format!("with {} levers", levers.len()));
         for lever in levers {
             self.find(call, &format!("lever {}", LEVERS[usize::from(lever) - 1]));
+        }
+    }
+
+    /// Where the free slots of a bank stand, and whether they would have been the reason.
+    fn note_live(&mut self, case: &Case, decision: &[u8]) {
+        let at = |offset: usize| u16::from_le_bytes([decision[offset], decision[offset + 1]]);
+        let slots = Slots::of(&case.bank);
+        self.find(
+            LIVE_PRESCRIBE,
+            match slots.live.len() {
+                live if live == slots.many => "no slot free",
+                0 => "every slot free",
+                _ => "some slots free",
+            },
+        );
+        let (reason, place) = (at(9), at(15));
+        match decision[8] {
+            3 if case.bank.len() <= LOOKED_AT && reason != reason_over_all(case) => {
+                self.find(LIVE_PRESCRIBE, "another reason than over all slots");
+            }
+            1 | 2 if slots.lowest_free().is_some_and(|free| free < place) => {
+                self.find(LIVE_PRESCRIBE, "chosen behind a free slot");
+            }
+            _ => {}
+        }
+    }
+
+    /// What an edit met. Where nothing moves the epoch rises all the same.
+    fn note_edit(&mut self, call: usize, case: &Case, owed: &Answer) {
+        let slots = Slots::of(&case.bank);
+        let told = u16::from_le_bytes([owed.out[0], owed.out[1]]);
+        let last = slots.live.last().map(|(slot, _)| *slot);
+        let listed = slots.live.iter().filter(|(_, model)| model.model_id == case.id).count();
+        let what = match call {
+            ADD if last.is_some_and(|last| told < last) => "between live records",
+            ADD if slots.live.is_empty() => "to a bank with none",
+            ADD => "after the last live record",
+            REPLACE if owed.bank == case.bank => "by the bytes that are there",
+            REPLACE => "by others",
+            REMOVE if listed > 1 => "the first of several",
+            REMOVE => "the only one",
+            _ if owed.bank == case.bank => "nothing to move",
+            _ => "gaps closed",
+        };
+        self.find(call, what);
+        if case.policy.len() == LONG_POLICY_BYTES {
+            self.find(call, "policy of 31 bytes");
         }
     }
 
@@ -113,10 +166,10 @@ impl Figures {
 
     fn note_records(&mut self, case: &Case) {
         let (policy, request, models) = (policy_of(&case.policy), request_of(&case.request), models_of(&case.bank));
-        let question = Question { policy, request, models };
+        let question = Question::over(policy, request, models);
         let explained = explain(&question);
         self.note_rounding(case, &question, &explained);
-        if let Some(key) = deciding_key(&question.models, &explained) {
+        if let Some(key) = deciding_key(&question.models(), &explained) {
             self.see(format!("first before second by {key}"));
         }
         for (name, holds) in EXTREMES {
@@ -147,6 +200,12 @@ impl Figures {
     fn see(&mut self, what: String) {
         *self.seen.entry(what).or_default() += 1;
     }
+}
+
+/// The reason for which a case is rejected where every slot counts.
+fn reason_over_all(case: &Case) -> u16 {
+    let (policy, request, models) = (policy_of(&case.policy), request_of(&case.request), models_of(&case.bank));
+    decide(&Question::over(policy, request, models)).0.reason
 }
 
 fn kind_of_line(line: &str) -> String {

@@ -17,8 +17,16 @@ const GUARD: usize = 24;
 
 /// The order in which things stand in memory, as far as a call takes them: what may be written first, then what is read, so that a step
 /// past the end of a bank, a list or a form that is read is a fault.
-const ORDER: [Handed; 7] =
-    [Handed::Out, Handed::List, Handed::Policy, Handed::Request, Handed::Bank, Handed::Listed, Handed::Form];
+const ORDER: [Handed; 8] = [
+    Handed::Out,
+    Handed::List,
+    Handed::Policy,
+    Handed::Request,
+    Handed::Bank,
+    Handed::Listed,
+    Handed::Form,
+    Handed::Record,
+];
 
 /// What the program is lent in one piece, each part after a guard. Nothing follows the last.
 #[derive(Clone, PartialEq)]
@@ -39,6 +47,7 @@ impl Memory {
                 Handed::Policy => memory.bytes.extend(ask.policy),
                 Handed::Request => memory.bytes.extend(ask.request),
                 Handed::Bank => memory.bytes.extend(ask.bank),
+                Handed::Record => memory.bytes.extend(ask.record),
                 Handed::Listed => memory.bytes.extend(list_to_read(ask)),
                 Handed::Form => memory.bytes.extend(&ask.form),
                 Handed::Id | Handed::Place => unreachable!("a number stands nowhere"),

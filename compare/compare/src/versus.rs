@@ -29,6 +29,7 @@ impl Owing {
         let question = after.question(&CALLS[call], ask);
         after.write(Handed::Out, &owed.out);
         after.write(Handed::List, &owed.list);
+        after.write(Handed::Policy, &owed.policy);
         after.write(Handed::Bank, &owed.bank);
         Owing { call, named: named.clone(), question, word: owed.word(), after }
     }

@@ -87,14 +87,14 @@ fn a_list_that_is_read_was_explained_by_the_same_rule() {
 /// Whether an explanation shows a cost that the two roundings differ in.
 fn shows_another_cost(case: &Case) -> bool {
     let (policy, request, models) = (policy_of(&case.policy), request_of(&case.request), models_of(&case.bank));
-    let question = Question { policy, request, models };
+    let question = Question::over(policy, request, models);
     let priced = |model: &&KernelModel| first_failed(model, &request).is_none();
     let differs = |model: &KernelModel| {
         let [apart, once] = [Rounding::Apart, Rounding::Once].map(|rounding| cost(rounding, model, &request));
         assert!(apart - once <= 1, "a part is rounded up by less than 1");
         apart != once
     };
-    !is_stopped(&question) && question.models.iter().filter(priced).any(differs)
+    !is_stopped(&question) && question.models().iter().filter(priced).any(differs)
 }
 
 /// The draw of a number by which every policy rounds apart.

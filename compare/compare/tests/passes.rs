@@ -55,8 +55,8 @@ fn check(case: &Case) -> u64 {
     }
     let (policy, request, models) = (policy_of(&case.policy), request_of(&case.request), models_of(&case.bank));
     let snapshot = policy.with(models.clone());
-    let question = Question { policy: policy.by(Rules::RUST), request, models };
-    let records = question.models.len();
+    let question = Question::over(policy.by(Rules::RUST), request, models);
+    let records = question.records.len();
     let (won, copies) = copies_of(records, || counterfactual::what_would_win(&snapshot, request, case.id));
     let counted = search::what_would_win(&question, case.id);
     assert_eq!(won.map(|_| copies + 1), counted.map(|counted| counted.passes), "{case}");

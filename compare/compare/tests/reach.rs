@@ -1,6 +1,9 @@
 //! The inputs reach every rule: each refusal of each call, each reason, each count, each key of the ranking, each extreme, each verdict,
-//! each lever, each line and each sentence.
-use compare::calls::{ASK, CALLS, EXPLAIN, MARGIN, NEXT, TRUST, UNIT, WIN, WORDS, WRITE_STORED};
+//! each lever, each line, each sentence, and free slots and edits of each kind.
+use compare::calls::{
+    ADD, ASK, CALLS, COMPACT, EXPLAIN, LIVE_EXPLAIN, LIVE_MARGIN, LIVE_PRESCRIBE, LIVE_WIN, MARGIN, NEXT, REMOVE,
+    REPLACE, TRUST, UNIT, WIN, WORDS, WRITE_STORED,
+};
 use compare::case::Case;
 use compare::figures::{Figures, COUNTS, EXTREMES, KEYS, LEVERS, ROUNDINGS, SEARCHED};
 use compare::generate::{Asked, Draw, Policies, DRAWS, SPACES};
@@ -13,7 +16,7 @@ fn note(figures: &mut Figures, asked: &Asked, case: &Case) {
 
 /// The refusals of each call, in the order of `CALLS`. 2 takes a bank of 65,536 records and 18 one of 1,395: the small spaces alone reach
 /// them, and are asked for them apart.
-const REFUSED: [&[u8]; 19] = [
+const REFUSED: [&[u8]; CALLS.len()] = [
     &[1, 4, 22, 23],
     &[1, 3, 4, 22, 23],
     &[1, 4, 7, 22, 23],
@@ -33,6 +36,17 @@ const REFUSED: [&[u8]; 19] = [
     &[4],
     &[4],
     &[4],
+    &[1, 4, 22, 23, 34],
+    &[1, 3, 4, 22, 23, 34],
+    &[1, 4, 22, 23, 34],
+    &[1, 4, 34],
+    &[1, 4, 7, 22, 23, 34],
+    &[1, 4, 5, 22, 23, 34],
+    &[1, 4, 6, 22, 23, 34],
+    &[1, 4, 12, 16, 22, 23, 27, 28, 34],
+    &[1, 4, 5, 16, 22, 23, 27, 34],
+    &[1, 4, 5, 16, 22, 23, 27, 34],
+    &[1, 4, 22, 23, 27, 34],
 ];
 
 /// What each call prints in place of an answer, from the third on by the desk alone; 19 takes 901 models, and random cases may miss it.
@@ -71,10 +85,14 @@ fn assert_reached(figures: &Figures) {
     let keys = KEYS.map(|key| format!("first before second by {key}"));
     let extremes = EXTREMES.iter().map(|(name, _)| format!("some {name}"));
     reasons.chain(counts).chain(keys).chain(extremes).for_each(|what| assert_seen(figures, &what));
-    let gates = (1..=8).map(|gate| (EXPLAIN, format!("some with verdict 1, gate {gate}")));
-    let verdicts = (2..=4).map(|verdict| (EXPLAIN, format!("some with verdict {verdict}")));
-    let levers = LEVERS.iter().map(|lever| (WIN, format!("lever {lever}")));
-    let margins = LEVERS[..4].iter().map(|lever| (MARGIN, format!("lever {lever}")));
+    let explained = [EXPLAIN, LIVE_EXPLAIN];
+    let gates = explained.into_iter().flat_map(|call| (1..=8).map(move |gate| (call, gate)));
+    let gates = gates.map(|(call, gate)| (call, format!("some with verdict 1, gate {gate}")));
+    let verdicts = explained.into_iter().flat_map(|call| (2..=4).map(move |verdict| (call, verdict)));
+    let verdicts = verdicts.map(|(call, verdict)| (call, format!("some with verdict {verdict}")));
+    let levers = LEVERS.iter().flat_map(|lever| [WIN, LIVE_WIN].map(|call| (call, format!("lever {lever}"))));
+    let margins =
+        LEVERS[..4].iter().flat_map(|lever| [MARGIN, LIVE_MARGIN].map(|call| (call, format!("lever {lever}"))));
     let refused = [UNIT, ASK, WORDS].into_iter().flat_map(|call| PRINTED_REFUSED.map(|number| (call, number)));
     let refused =
         refused.chain([(ASK, 5), (WORDS, 5)]).map(|(call, number)| (call, format!("prints refused {number}")));
@@ -92,6 +110,24 @@ fn assert_reached(figures: &Figures) {
         (WIN, "1 pass, no search"),
         (WIN, SEARCHED),
         (MARGIN, SEARCHED),
+        (LIVE_EXPLAIN, "no record"),
+        (LIVE_WIN, "1 pass, no search"),
+        (LIVE_WIN, SEARCHED),
+        (LIVE_MARGIN, SEARCHED),
+        (LIVE_PRESCRIBE, "no slot free"),
+        (LIVE_PRESCRIBE, "some slots free"),
+        (LIVE_PRESCRIBE, "every slot free"),
+        (LIVE_PRESCRIBE, "another reason than over all slots"),
+        (LIVE_PRESCRIBE, "chosen behind a free slot"),
+        (ADD, "between live records"),
+        (ADD, "to a bank with none"),
+        (ADD, "after the last live record"),
+        (REPLACE, "by the bytes that are there"),
+        (REPLACE, "by others"),
+        (REMOVE, "the first of several"),
+        (REMOVE, "the only one"),
+        (COMPACT, "nothing to move"),
+        (COMPACT, "gaps closed"),
     ];
     let others = others.map(|(call, what)| (call, what.to_string()));
     let printed = refused.chain(lines).chain(said);
@@ -111,7 +147,7 @@ fn the_small_spaces_reach_everything() {
     ROUNDINGS.iter().for_each(|what| assert_seen(&figures, what));
     // Only banks of 65,536 records and more; neither a request nor a list is a bank.
     let banks = (0..CALLS.len()).filter(|call| REFUSED[*call].contains(&1));
-    assert!(banks.clone().count() == 11 && banks.into_iter().all(|call| figures.refused.contains_key(&(call, 2))));
+    assert!(banks.clone().count() == 22 && banks.into_iter().all(|call| figures.refused.contains_key(&(call, 2))));
     assert!(figures.refused.contains_key(&(WRITE_STORED, 18)));
     assert!([UNIT, ASK, WORDS].iter().all(|call| figures.found.contains_key(&(*call, "prints refused 19".into()))));
 }

@@ -1,2 +1,3 @@
--- Whether an outcome refuses.
+-- Whether an outcome refuses, and how a bank is read.
 pub mod Refuse
+pub mod Read

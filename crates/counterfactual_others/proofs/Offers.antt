@@ -17,8 +17,8 @@ use Rattle.kernel_scan.specs.Places.{onward, placedFrom}
 use Rattle.kernel_scan.proofs.Places.{length-placed, placed-all, listed-split}
 use Rattle.kernel_decide.specs.Decide.{decisionOfScan}
 use Rattle.kernel_decide.proofs.Decisions.{state-decides}
-use Rattle.counterfactual_opening.specs.Opening.{topIn}
-use Rattle.counterfactual_opening.proofs.Opening.{top-free}
+use Rattle.kernel_among.specs.Top.{topIn}
+use Rattle.kernel_among.proofs.Tops.{top-free}
 use Rattle.counterfactual_others.specs.Others.{withoutPlace, bestOf, othersOf, bestWith, hasId}
 use Rattle.counterfactual_others.proofs.{Selecting.best-selects, Selecting.best-costs, Apart.best-apart, Apart.others-apart}
 

@@ -4,7 +4,7 @@ use Rattle.rules.specs.{Records.listedOf, Refused.bankFaults, Listing.firstList
 use Rattle.rules.specs.{declared.records.KernelInput.KernelInput, declared.records.PolicySnapshot.PolicySnapshot}
 use Rattle.kernel_ranking.specs.declared.state.Top.{Top}
 use Rattle.call_checks.proofs.Finding.{found-at}
-use Rattle.counterfactual_opening.specs.Opening.{topIn}
+use Rattle.kernel_among.specs.Top.{topIn}
 use Rattle.counterfactual_others.specs.Others.{othersOf}
 use Rattle.counterfactual_others.proofs.Offers.{others-offer}
 use Rattle.counterfactual_pass.specs.{Asked.askedFrom, Asked.Stands, declared.pass.Asked.Asked}

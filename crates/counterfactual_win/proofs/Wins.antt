@@ -1,14 +1,18 @@
 -- What would win, case by case. Assumes nothing.
-use Rattle.rules.proofs.Kit.{ℕ, arith, _≡_, refl, ap, ap₂, _∙_, Bool, true, false, List, none, some, eq-eqb, ne-eqb}
-use Rattle.rules.specs.{Choice.below, Records.listedOf, Records.modelAt, Refused.fault, Numbers.Decision, Numbers.Entry, Listing.firstListed, Listing.placeOf}
+use Rattle.rules.proofs.Kit.{ℕ, arith, _≡_, refl, sym, ap, ap₂, _∙_, Bool, true, false, List, Option, none, some, Option·none-ne-some, eq-eqb, ne-eqb}
+use Rattle.rules.specs.{Choice.below, Records.Listed, Records.listedOf, Records.modelAt, Refused.fault, Numbers.Decision, Numbers.Entry}
+use Rattle.rules.specs.{Listing.firstListed, Listing.placeOf}
 use Rattle.rules.specs.{Decide.stoppedBy, Decide.decisionOf, Levers.Question, Levers.wins, Levers.selects, Levers.entry, Levers.noSearch, Levers.boundaryOf}
 use Rattle.rules.specs.{Levers.boundaryRefused, Win.winLevers, Win.ifOn, Win.winSearch, Win.winFor, Win.winBy, Win.winIn, Price.costUnder, Win.winIfListed}
 use Rattle.rules.specs.{declared.records.KernelInput.KernelInput, declared.records.PolicySnapshot.PolicySnapshot, declared.decision.KernelReason.KernelReason}
 use Rattle.kernel_ranking.specs.declared.state.Top.{Top}
 use Rattle.kernel_stop.specs.{Stop.toldStop, declared.Stop.Stop, declared.Stop.the-variants.Open, declared.Stop.the-variants.By}
-use Rattle.call_checks.proofs.Finding.{found-at, found-nothing}
+use Rattle.live_slots.specs.Among.{amongOf, Among}
+use Rattle.live_slots.proofs.Among.{first-read}
+use Rattle.call_checks.proofs.Finding.{found-at}
 use Rattle.kernel_stop.proofs.Stops.{open-free, by-high}
 use Rattle.counterfactual_pass.specs.{Asked.askedFrom, Asked.questionIn, declared.pass.Asked.Asked}
+use Rattle.counterfactual_pass.proofs.{LiveQuestions.asking, AmongQuestions.found-other, AmongQuestions.win-read}
 use Rattle.counterfactual_answer.specs.Levers.{LeverRooms, emptyRoom, pushed, roomOf}
 
 -- ---- what is searched
@@ -53,22 +57,36 @@ module _ (a : Question) (d : Decision) {s : Stop} (told : toldStop s ≡ stopped
 
 -- ---- the id is listed, or not
 
-module _ (p : PolicySnapshot) (q : KernelInput) (bank : List ℕ) (id : ℕ) where
-  pub win-nowhere : placeOf (firstListed id (listedOf bank)) ≡ none → winIn p q (listedOf bank) id ≡ boundaryRefused (fault 5)
-  unfolding winBy
-  win-nowhere e = ap (winIfListed (costUnder p) p q (listedOf bank) id) (found-nothing bank id e)
+pub win-nowhere : (p : PolicySnapshot) (q : KernelInput) (ls : List Listed) (id : ℕ) → placeOf (firstListed id ls) ≡ none
+    → winIn p q ls id ≡ boundaryRefused (fault 5)
+unfolding winBy
+win-nowhere p q ls id e = go (firstListed id ls) e
+  where
+    go : (o : Option Listed) → placeOf o ≡ none → winIfListed (costUnder p) p q ls id o ≡ boundaryRefused (fault 5)
+    go none e = refl
+    go (some l) e = absurd (Option·none-ne-some (l .place) (sym e))
 
-  -- the question about the record at a place
-  abbrev pub asking : ℕ → Question
-  asking place = record { costs = costUnder p; policy = p; request = q; list = listedOf bank; id = id; model = modelAt bank place }
+module _ (many : ℕ) (bank : List ℕ) (id place : ℕ) (seen : Among many bank) (found : placeOf (firstListed id (amongOf many bank)) ≡ some place) where
+  same-first : firstListed id (amongOf many bank) ≡ firstListed id (listedOf bank)
+  same-first = first-read many bank seen id (found-other many bank seen id place found)
 
-  pub win-listed : (place : ℕ) → placeOf (firstListed id (listedOf bank)) ≡ some place
-      → winIn p q (listedOf bank) id ≡ winFor (asking place) (decisionOf p q (listedOf bank))
-  unfolding winBy
-  win-listed place f = ap (winIfListed (costUnder p) p q (listedOf bank) id) (found-at bank id place f .0)
+  -- THE FIRST AMONG SO MANY IS THE FIRST OF ALL
+  pub first-of-all : placeOf (firstListed id (listedOf bank)) ≡ some place
+  first-of-all = ap placeOf (sym same-first) ∙ found
 
-  -- what is sought for what is asked there
-  pub sought-at : {k : Asked} {t : LeverRooms} (place : ℕ) (top : Top) → k ≡ askedFrom p q bank id place top
-      → t ≡ roomOf (winSearch (questionIn k bank)) → t ≡ roomOf (winSearch (asking place))
-  unfolding questionIn
-  sought-at place top e f = f ∙ ap (λ (k : Asked). roomOf (winSearch (questionIn k bank))) e
+  module _ (p : PolicySnapshot) (q : KernelInput) where
+    -- the question about it
+    abbrev pub ask : Question
+    ask = asking (costUnder p) p q id (modelAt bank place) (amongOf many bank)
+
+    pub win-listed : winIn p q (amongOf many bank) id ≡ winFor ask (decisionOf p q (amongOf many bank))
+    unfolding winBy
+    win-listed = ap (winIfListed (costUnder p) p q (amongOf many bank) id) (same-first ∙ found-at bank id place first-of-all .0)
+
+    -- AND WHAT IS SOUGHT OVER EVERY RECORD is what is sought there
+    pub sought-at : {k : Asked} {t : LeverRooms} (top : Top) → k ≡ askedFrom p q bank id place top
+        → t ≡ roomOf (winSearch (questionIn k bank)) → t ≡ roomOf (winSearch ask)
+    unfolding questionIn
+    sought-at top e f =
+        f ∙ ap (λ (k : Asked). roomOf (winSearch (questionIn k bank))) e
+        ∙ ap roomOf (sym (win-read many bank seen p q id place (found-other many bank seen id place found) first-of-all))

@@ -2,12 +2,11 @@
 // other crates: users have the call from `counterfactual`, which passes it on.
 ghost use mathlib.Core.Path.{_≡_};
 ghost use mathlib.Core.List.{[]};
-ghost use mathlib.Core.Option.{some};
-ghost use Rattle.rules.specs.Records.{listedOf};
-ghost use Rattle.rules.specs.Refused.{bankFaults};
+ghost use Rattle.rules.specs.Refused.{bankFaults, answered};
 ghost use Rattle.rules.specs.Listing.{firstListed, placeOf};
-ghost use Rattle.rules.specs.Numbers.{toldBoundaries};
+ghost use Rattle.rules.specs.Numbers.{toldFound, toldBoundaries};
 ghost use Rattle.rules.specs.Win.{winSearch, winIn, whatWouldWinOf};
+ghost use Rattle.live_slots.specs.Among.{amongOf, Among};
 ghost use Rattle.counterfactual_pass.specs.Asked.{questionIn, Stands};
 ghost use Rattle.counterfactual_answer.specs.Levers.{toldLevers, roomOf};
 use call_checks::listing::first_listed;
@@ -19,11 +18,11 @@ use counterfactual_answer::levers::plain;
 use counterfactual_answer::levers::push;
 use counterfactual_four_levers::win::win_levers;
 use counterfactual_lever::ENABLED;
-use counterfactual_opening::open::opened;
 use counterfactual_pass::pass::Asked;
 use counterfactual_pass::pass::asked_at;
 use counterfactual_pass::pass::selected;
 use counterfactual_pass::pass::wins_at;
+use kernel_among::among::decide_among;
 use kernel_stop::Stop;
 use kernel_stop::stopped_by;
 use rules::Boundaries;
@@ -33,6 +32,7 @@ use rules::Levers;
 use rules::Outcome;
 use rules::PolicySnapshot;
 use rules::Refusal;
+use rules::limits::RECORD_BYTES;
 
 // A model that is off is only switched on, at the second pass: no other lever makes it win.
 fn win_search(asked: Asked, bank: &[u8]) -> Levers
@@ -49,18 +49,23 @@ fn win_search(asked: Asked, bank: &[u8]) -> Levers
     no_levers(2)
 }
 
-// The answer for an id whose first listed record has a place. Nothing is sought where the request is stopped or the id is selected already.
-fn win_for(
+// The answer for an id that was sought among so many records. Nothing is searched where the request is stopped or the id is selected already; 5
+// where it was nowhere.
+pub fn win_among(
     policy: PolicySnapshot,
     bank: &[u8],
     input: KernelInput,
     id: u32,
-    place: u16,
+    found: Found,
+    many: u16,
 ) -> Boundaries
-    requires { ⌜ (placeOf (firstListed id (listedOf (now bank))) ≡ some place) × (bankFaults (now bank) ≡ []) ⌝ }
-    ensures { λ r. ⌜ toldBoundaries r ≡ winIn policy input (listedOf (now (bank .entry))) id ⌝ }
+    requires { ⌜ (toldFound found ≡ answered (placeOf (firstListed id (amongOf many (now bank))))) × Among many (now bank) × (bankFaults (now bank) ≡ []) ⌝ }
+    ensures { λ r. ⌜ toldBoundaries r ≡ winIn policy input (amongOf many (now (bank .entry))) id ⌝ }
 {
-    let opening = opened(policy, bank, input);
+    let Found::At(place) = found else {
+        return refused(Refusal::UnknownModel);
+    };
+    let opening = decide_among(policy, bank, input, many);
     let decision = opening.decision;
     let stop = stopped_by(policy, input);
     if let Stop::By(_) = stop {
@@ -86,9 +91,7 @@ pub fn what_would_win(
     if let Outcome::Refused(refusal) = outcome {
         return refused(refusal);
     }
+    let many = (bank.len() / RECORD_BYTES) as u16;
     let found = first_listed(bank, id);
-    let Found::At(at) = found else {
-        return refused(Refusal::UnknownModel);
-    };
-    win_for(policy, bank, input, id, at)
+    win_among(policy, bank, input, id, found, many)
 }

@@ -33,3 +33,16 @@ pub mod Validated
 pub mod BoundariesExample
 pub mod OnceExample
 pub mod SettingsExample
+pub mod Renaming
+pub mod MovedAnswers
+pub mod MovedBoundaries
+pub mod Closing
+pub mod Compacting
+pub mod Writing
+pub mod SlotsApart
+pub mod Edited
+pub mod Freed
+pub mod LiveDemands
+pub mod AsBefore
+pub mod EditsExample
+pub mod LiveExample

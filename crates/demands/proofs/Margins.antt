@@ -1,15 +1,15 @@
 -- DEMAND 3, second half: what `decision_margin` answers is exact. Assumed: unique ids; and over any list, a cost that doesn't fall where prices rise.
 use Rattle.rules.proofs.Kit.{ℕ, zero-le, _≡_, refl, sym, ap, false, List, [], _∷_, List·Memᴰ, List·Memᴰ·head, List·Memᴰ·tail, some, arith, eq-eqb, ne-eqb}
 use Rattle.rules.specs.{Limits.ppm, Limits.maxU32, Limits.maxPriceScale, Choice.equal, Records.Listed, Records.listedOf, Refused.noFault, Refused.bankFaults}
-use Rattle.rules.specs.{Numbers.isRejection, Price.Cost, Price.costUnder, Decide.decisionBy, Decide.decisionOf, Listing.firstListed, Halving.Lowest}
-use Rattle.rules.specs.{Halving.Highest, Halving.searchOf, Halving.searchAfterFarEnd, Levers.wins, Margin.marginLevers, Margin.marginFor, Margin.marginBy}
-use Rattle.rules.specs.{Margin.decisionMarginOf, declared.records.KernelInput.KernelInput, declared.records.PolicySnapshot.PolicySnapshot}
+use Rattle.rules.specs.{Numbers.isRejection, Price.Cost, Price.costUnder, Decide.decisionBy, Decide.decisionOf, Listing.Reading, Listing.everyRecord}
+use Rattle.rules.specs.{Listing.firstListed, Halving.Lowest, Halving.Highest, Halving.searchOf, Halving.searchAfterFarEnd, Levers.wins, Margin.marginLevers}
+use Rattle.rules.specs.{Margin.marginFor, Margin.marginBy, Margin.decisionMarginOver, Margin.decisionMarginOf, declared.records.KernelInput.KernelInput}
+use Rattle.rules.specs.{declared.records.PolicySnapshot.PolicySnapshot}
 use Rattle.demands.specs.{Standing.RisesWithPrices, Standing.UniqueIds, Demand3.marginQuality, Demand3.marginLatency, Demand3.marginPrice}
 use Rattle.demands.specs.{Demand3.marginCeiling, Demand3.question, Demand3.MarginExact, Demand3.MarginOfChoice}
 use Rattle.demands.proofs.{Lists.each-member, Selected.chose-selects, Selected.executes, Favours.quality-ordered, Favours.latency-ordered}
 use Rattle.demands.proofs.{Favours.price-ordered, Favours.ceiling-ordered, Favours.quality-today, Favours.latency-today, Favours.price-today}
-use Rattle.demands.proofs.{Favours.ceiling-today, Varied.selects-on, Varied.turns-once, Varied.selected-today, Entries.used-sought}
-use Rattle.demands.proofs.{Entries.not-refused}
+use Rattle.demands.proofs.{Favours.ceiling-today, Varied.selects-on, Varied.turns-once, Varied.selected-today, Entries.used-sought, Entries.not-refused}
 use Rattle.demands.proofs.{Entries.Answers, Entries.answers, Entries.kept, Entries.kept-quality, Rounding.cost-rises}
 
 -- with unique ids a listed record is the first with its id
@@ -41,7 +41,8 @@ module _ (costs : Cost) (p : PolicySnapshot) (q : KernelInput) (ls : List Listed
 
     -- Demand 3, second half. THE MARGIN IS EXACT, over any list with unique ids whose decision is no rejection, by any cost that doesn't fall where
     -- prices rise
-    pub keep-exact : RisesWithPrices costs → UniqueIds ls → MarginExact (marginBy costs p q ls) (question costs p q ls (decisionBy costs p q ls .model) (l .model))
+    pub keep-exact : RisesWithPrices costs → UniqueIds ls
+        → MarginExact (marginBy costs p q ls) (question costs p q ls (decisionBy costs p q ls .model) (l .model))
     keep-exact rises unique =
         let id = decisionBy costs p q ls .model in
         let f = found-to-keep in
@@ -69,8 +70,14 @@ module _ (costs : Cost) (p : PolicySnapshot) (q : KernelInput) (ls : List Listed
       let first : firstListed (decisionBy costs p q ls .model) ls ≡ some l = rw (f .id) (unique-first ls l unique (f .chosen .member)) in
       record { varied = l; first = first; place = sym (f .place); exact = keep-exact l first rises unique }
 
--- Demand 3, second half. THE MARGIN IS EXACT, of a bank with unique ids whose decision is no rejection, however the policy rounds
+-- Demand 3, second half. THE MARGIN IS EXACT, however a bank is read and its policy rounds, where nothing refuses it, its records have unique ids, and
+-- its decision is no rejection
+pub margin-over-exact : (p : PolicySnapshot) (q : KernelInput) (b : Reading) → b .faults ≡ [] → UniqueIds (b .list)
+    → isRejection (decisionOf p q (b .list)) ≡ false → MarginOfChoice (costUnder p) p q (b .list) (decisionMarginOver p q b)
+margin-over-exact p q b none unique chose = rw none (choice-exact (costUnder p) p q (b .list) chose (cost-rises (p .rounding)) unique)
+
+-- Demand 3, second half. So it is with every record of a bank
 pub decision-margin-exact : (p : PolicySnapshot) (q : KernelInput) (bank : List ℕ) → bankFaults bank ≡ [] → UniqueIds (listedOf bank)
     → isRejection (decisionOf p q (listedOf bank)) ≡ false → MarginOfChoice (costUnder p) p q (listedOf bank) (decisionMarginOf p q bank)
 unfolding decisionMarginOf
-decision-margin-exact p q bank whole unique chose = rw whole (choice-exact (costUnder p) p q (listedOf bank) chose (cost-rises (p .rounding)) unique)
+decision-margin-exact p q bank = margin-over-exact p q (everyRecord bank)

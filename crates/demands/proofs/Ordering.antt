@@ -3,8 +3,8 @@ use Rattle.rules.proofs.Kit.{ℕ, _%_, _≡_, refl, subst, ap, Bool, true, fals
 use Rattle.rules.proofs.Kit.{length}
 use Rattle.rules.specs.{Limits.recordBytes, Choice.below, Choice.equal, Order.InOrder, Bytes.number, Records.modelOf, Records.listedOf, Refused.Faults}
 use Rattle.rules.specs.{Refused.lengthFaults, Refused.unless, Trust.reservedFaults, Trust.flagFaults, Trust.earlyFaults, Trust.recordsFrom, Trust.joined}
-use Rattle.rules.specs.{Trust.idOf, Trust.lowerId, Trust.orderedOf, Trust.trustBank}
-use Rattle.rules.proofs.{Sorted.passing, Sorted.sorted-permutes, Sorted.sorted-in-order, Sorted.sorted-stable, Faults.early-whole, Chunks.recordsOf}
+use Rattle.rules.specs.{Trust.idOf, Trust.lowerId, Trust.orderedOf, Trust.trustBank, Trust.recordsOf}
+use Rattle.rules.proofs.{Sorted.passing, Sorted.sorted-permutes, Sorted.sorted-in-order, Sorted.sorted-stable, Faults.early-whole}
 use Rattle.rules.proofs.{Chunks.by-id, Chunks.same-length, Chunks.its-records, Chunks.order-again, Example.modelOne, Example.modelTwo, Example.with}
 
 -- a law of the bank as it was and of the ordered one is a law of the bank at exit

@@ -5,17 +5,17 @@ use Rattle.rules.proofs.Kit.{ℕ, _+_, _-_, _*_, _^_, _≤_, _<_, _≡_, refl, 
 use Rattle.rules.proofs.Kit.{eqb}
 use Rattle.rules.specs.{Choice.pick, Choice.equal, Order.Each, Records.Listed, Records.listedOf, Refused.Faults, Refused.bankFaults, Refused.fault}
 use Rattle.rules.specs.{Refused.unless, Numbers.Decision, Numbers.Boundary, Numbers.isRejection, Price.Cost, Price.costUnder, Decide.stoppedBy}
-use Rattle.rules.specs.{Decide.decisionBy, Decide.decisionOf, Listing.firstListed, Halving.Lowest, Halving.Highest, Halving.passesOf, Levers.Question}
-use Rattle.rules.specs.{Levers.selects, Levers.wins, Levers.Sought, Levers.priced, Levers.noSearch, Levers.boundaryOf, Levers.boundaryRefused, Win.ifOn}
-use Rattle.rules.specs.{Win.winLevers, Win.winSearch, Win.winFor, Win.winIfListed, Win.winBy, Win.winIn, Win.whatWouldWinOf, Margin.marginLevers}
-use Rattle.rules.specs.{Margin.marginIfListed, Margin.marginFor, Margin.marginBy, Margin.marginIn, Margin.decisionMarginOf, declared.boundary.Bound.Bound}
-use Rattle.rules.specs.{declared.boundary.Bound.the-variants.At, declared.boundary.Bound.the-variants.Nothing, declared.records.KernelInput.KernelInput}
-use Rattle.rules.specs.{declared.records.PolicySnapshot.PolicySnapshot}
+use Rattle.rules.specs.{Decide.decisionBy, Decide.decisionOf, Listing.Reading, Listing.everyRecord, Listing.firstListed, Halving.Lowest, Halving.Highest}
+use Rattle.rules.specs.{Halving.passesOf, Levers.Question, Levers.selects, Levers.wins, Levers.Sought, Levers.priced, Levers.noSearch, Levers.boundaryOf}
+use Rattle.rules.specs.{Levers.boundaryRefused, Win.ifOn, Win.winLevers, Win.winSearch, Win.winFor, Win.winIfListed, Win.winBy, Win.winIn, Win.whatWouldWinOver}
+use Rattle.rules.specs.{Win.whatWouldWinOf, Margin.marginLevers, Margin.marginIfListed, Margin.marginFor, Margin.marginBy, Margin.marginIn}
+use Rattle.rules.specs.{Margin.decisionMarginOver, Margin.decisionMarginOf, declared.boundary.Bound.Bound, declared.boundary.Bound.the-variants.At}
+use Rattle.rules.specs.{declared.boundary.Bound.the-variants.Nothing, declared.records.KernelInput.KernelInput, declared.records.PolicySnapshot.PolicySnapshot}
 use Rattle.rules.proofs.Halvings.{plain-passes}
 use Rattle.demands.specs.Demand3.{winPrice, marginPrice, question, Unselected, SwitchedOn, passesWithCost, halvingIn, halvingAfterFarEnd, winPasses}
-use Rattle.demands.specs.Demand3.{marginPasses, passesToWin, passesIfListed, passesToWinIn, passesToWinOf, passesToKeepIn, passesToKeepOf, mostToWin}
-use Rattle.demands.specs.Demand3.{mostForMargin, mostForMarginWithin, AreBytes, BpsWithin}
-use Rattle.demands.proofs.{Exact.search-short, Exact.margin-short, Widest.bytes-narrow, Widest.first-of}
+use Rattle.demands.specs.Demand3.{marginPasses, passesToWin, passesIfListed, passesToWinIn, passesToWinOver, passesToWinOf, passesToKeepIn}
+use Rattle.demands.specs.Demand3.{passesToKeepOver, passesToKeepOf, mostToWin, mostForMargin, mostForMarginWithin, AreBytes, BpsWithin}
+use Rattle.demands.proofs.{Exact.search-short, Exact.margin-short, Widest.Narrow, Widest.bytes-narrow, Widest.first-of}
 
 -- ---- the passes of four levers are those of their searches
 
@@ -83,30 +83,49 @@ module _ (costs : Cost) (p : PolicySnapshot) (q : KernelInput) (ls : List Listed
       go false none = refl
       go false (some l) = margin-levers-passes (question costs p q ls (d .model) (l .model))
 
-module _ (p : PolicySnapshot) (q : KernelInput) (bank : List ℕ) where
-  -- Demand 3. THE PASSES OF THE CALL `what_would_win` ARE THOSE OWED, whatever is asked: refused or not, stopped, selected, off, or searched
-  pub what-would-win-passes : (id : ℕ) → whatWouldWinOf p q bank id .passes ≡ passesToWinOf p q bank id
-  unfolding whatWouldWinOf passesToWinOf
-  what-would-win-passes id =
-      unless-passes (bankFaults bank) (winIn p q (listedOf bank) id) ∙ ap (unless (bankFaults bank) (λ f. 0)) (win-passes (costUnder p) p q (listedOf bank) id)
+module _ (p : PolicySnapshot) (q : KernelInput) (b : Reading) where
+  -- Demand 3. THE PASSES OF THE CALL `what_would_win` ARE THOSE OWED, however a bank is read and whatever is asked: refused or not, stopped, selected,
+  -- off, or searched
+  pub win-over-passes : (id : ℕ) → whatWouldWinOver p q b id .passes ≡ passesToWinOver p q b id
+  win-over-passes id =
+      unless-passes (b .faults) (winIn p q (b .list) id) ∙ ap (unless (b .faults) (λ f. 0)) (win-passes (costUnder p) p q (b .list) id)
 
   -- Demand 3. THE PASSES OF THE CALL `decision_margin` ARE THOSE OWED
-  pub decision-margin-passes : decisionMarginOf p q bank .passes ≡ passesToKeepOf p q bank
-  unfolding decisionMarginOf passesToKeepOf
-  decision-margin-passes =
-      unless-passes (bankFaults bank) (marginIn p q (listedOf bank)) ∙ ap (unless (bankFaults bank) (λ f. 0)) (keep-passes (costUnder p) p q (listedOf bank))
+  pub margin-over-passes : decisionMarginOver p q b .passes ≡ passesToKeepOver p q b
+  margin-over-passes = unless-passes (b .faults) (marginIn p q (b .list)) ∙ ap (unless (b .faults) (λ f. 0)) (keep-passes (costUnder p) p q (b .list))
 
   -- so where four levers are searched they are the halvings' own
+  pub searched-over-passes : (id : ℕ) (l : Listed) → b .faults ≡ [] → Unselected (costUnder p) p q (b .list) id l → SwitchedOn (l .model)
+      → whatWouldWinOver p q b id .passes ≡ winPasses (question (costUnder p) p q (b .list) id (l .model))
+  unfolding passesToWinIn passesToWin equal
+  searched-over-passes id l whole u on = win-over-passes id ∙ rw (whole, u .listed, u .goesOn, u .notSelected, ne-eqb (l .model .enabled) 0 on)
+
+  pub kept-over-passes : (l : Listed) → b .faults ≡ [] → isRejection (decisionOf p q (b .list)) ≡ false
+      → firstListed (decisionOf p q (b .list) .model) (b .list) ≡ some l
+      → decisionMarginOver p q b .passes ≡ marginPasses (question (costUnder p) p q (b .list) (decisionOf p q (b .list) .model) (l .model))
+  unfolding passesToKeepIn
+  kept-over-passes l whole chose first = margin-over-passes ∙ rw (whole, chose, first)
+
+-- and with every record of a bank
+module _ (p : PolicySnapshot) (q : KernelInput) (bank : List ℕ) where
+  pub what-would-win-passes : (id : ℕ) → whatWouldWinOf p q bank id .passes ≡ passesToWinOf p q bank id
+  unfolding whatWouldWinOf passesToWinOf
+  what-would-win-passes = win-over-passes p q (everyRecord bank)
+
+  pub decision-margin-passes : decisionMarginOf p q bank .passes ≡ passesToKeepOf p q bank
+  unfolding decisionMarginOf passesToKeepOf
+  decision-margin-passes = margin-over-passes p q (everyRecord bank)
+
   pub searched-passes : (id : ℕ) (l : Listed) → bankFaults bank ≡ [] → Unselected (costUnder p) p q (listedOf bank) id l → SwitchedOn (l .model)
       → whatWouldWinOf p q bank id .passes ≡ winPasses (question (costUnder p) p q (listedOf bank) id (l .model))
-  unfolding passesToWinOf passesToWinIn passesToWin equal
-  searched-passes id l whole u on = what-would-win-passes id ∙ rw (whole, u .listed, u .goesOn, u .notSelected, ne-eqb (l .model .enabled) 0 on)
+  unfolding whatWouldWinOf
+  searched-passes = searched-over-passes p q (everyRecord bank)
 
   pub kept-passes : (l : Listed) → bankFaults bank ≡ [] → isRejection (decisionOf p q (listedOf bank)) ≡ false
       → firstListed (decisionOf p q (listedOf bank) .model) (listedOf bank) ≡ some l
       → decisionMarginOf p q bank .passes ≡ marginPasses (question (costUnder p) p q (listedOf bank) (decisionOf p q (listedOf bank) .model) (l .model))
-  unfolding passesToKeepOf passesToKeepIn
-  kept-passes l whole chose first = decision-margin-passes ∙ rw (whole, chose, first)
+  unfolding decisionMarginOf
+  kept-passes = kept-over-passes p q (everyRecord bank)
 
 -- ---- how many these are
 
@@ -186,24 +205,35 @@ module _ (costs : Cost) (p : PolicySnapshot) (q : KernelInput) (ls : List Listed
       → marginBy costs p q ls .passes ≤ mostForMarginWithin
   margin-few-within h = kept-few 14 (λ l e. let w = h l e in ((omega arith), (omega arith)))
 
+module _ (p : PolicySnapshot) (q : KernelInput) (b : Reading) where
+  -- Demand 3. AT MOST 86 PASSES, however a bank is read, where its models are narrow: refused or not, stopped or not, with repeated ids or not
+  pub win-over-few : (id : ℕ) → Each (λ l. Narrow (l .model)) (b .list) → whatWouldWinOver p q b id .passes ≤ mostToWin
+  win-over-few id h =
+      unless-few mostToWin (b .faults) (winIn p q (b .list) id)
+      (win-few (costUnder p) p q (b .list) id (λ l e. first-of _ id (b .list) l h e .latency))
+
+  -- Demand 3. AT MOST 103 PASSES
+  pub margin-over-few : Each (λ l. Narrow (l .model)) (b .list) → decisionMarginOver p q b .passes ≤ mostForMargin
+  margin-over-few h =
+      unless-few mostForMargin (b .faults) (marginIn p q (b .list))
+      (margin-few (costUnder p) p q (b .list) (λ l e. first-of _ _ (b .list) l h e .within))
+
+  -- Demand 3. AT MOST 99 PASSES, where qualities and ceilings are within 10,000, as validation asks
+  pub margin-over-few-within : Each (λ l. BpsWithin 10000 (l .model)) (b .list) → decisionMarginOver p q b .passes ≤ mostForMarginWithin
+  margin-over-few-within h =
+      unless-few mostForMarginWithin (b .faults) (marginIn p q (b .list))
+      (margin-few-within (costUnder p) p q (b .list) (λ l e. first-of _ _ (b .list) l h e))
+
+-- Demand 3. So it is of any bank of bytes, with every record of it
 module _ (p : PolicySnapshot) (q : KernelInput) (bank : List ℕ) where
-  -- Demand 3. AT MOST 86 PASSES, of any bank of bytes: refused or not, stopped or not, with repeated ids or not
   pub what-would-win-few : (id : ℕ) → AreBytes bank → whatWouldWinOf p q bank id .passes ≤ mostToWin
   unfolding whatWouldWinOf
-  what-would-win-few id h =
-      unless-few mostToWin (bankFaults bank) (winIn p q (listedOf bank) id)
-      (win-few (costUnder p) p q (listedOf bank) id (λ l e. first-of _ id (listedOf bank) l (bytes-narrow bank h) e .latency))
+  what-would-win-few id h = win-over-few p q (everyRecord bank) id (bytes-narrow bank h)
 
-  -- Demand 3. AT MOST 103 PASSES, of any bank of bytes
   pub decision-margin-few : AreBytes bank → decisionMarginOf p q bank .passes ≤ mostForMargin
   unfolding decisionMarginOf
-  decision-margin-few h =
-      unless-few mostForMargin (bankFaults bank) (marginIn p q (listedOf bank))
-      (margin-few (costUnder p) p q (listedOf bank) (λ l e. first-of _ _ (listedOf bank) l (bytes-narrow bank h) e .within))
+  decision-margin-few h = margin-over-few p q (everyRecord bank) (bytes-narrow bank h)
 
-  -- Demand 3. AT MOST 99 PASSES, of a bank whose qualities and ceilings are within 10,000, as validation asks
   pub decision-margin-few-within : Each (λ l. BpsWithin 10000 (l .model)) (listedOf bank) → decisionMarginOf p q bank .passes ≤ mostForMarginWithin
   unfolding decisionMarginOf
-  decision-margin-few-within h =
-      unless-few mostForMarginWithin (bankFaults bank) (marginIn p q (listedOf bank))
-      (margin-few-within (costUnder p) p q (listedOf bank) (λ l e. first-of _ _ (listedOf bank) l h e))
+  decision-margin-few-within = margin-over-few-within p q (everyRecord bank)

@@ -43,15 +43,21 @@ eligibles-pairs R (j ∷ js) h = go (eqb (j .verdict .kind) 4) (eligibles-pairs 
     go true r = (eligibles-each (R (j .listed .place)) js (h .0), r)
     go false r = r
 
--- the judged records of a bank, and its eligible models, rise too
+-- where the places of a list rise, those of its judged records do, and of its eligible models; and so with every record of a bank
+pub judged-rise : (p : PolicySnapshot) (q : KernelInput) (ls : List Listed) → Rising (λ (l : Listed). l .place) ls → PlacesRise (judged p q ls)
+judged-rise p q ls h = judged-pairs p q (λ a b. a < b) ls h
+
 pub judged-rising : (p : PolicySnapshot) (q : KernelInput) (bank : List ℕ) → PlacesRise (judgedOf p q bank)
-judged-rising p q bank = judged-pairs p q (λ a b. a < b) (listedOf bank) (bank-rising bank)
+judged-rising p q bank = judged-rise p q (listedOf bank) (bank-rising bank)
 
 pub eligibles-rising : (js : List Judged) → PlacesRise js → Rising (λ (c : Candidate). c .place) (eligibles js)
 eligibles-rising js h = eligibles-pairs (λ a b. a < b) js h
 
+pub rising-differ : (js : List Judged) → PlacesRise js → PlacesDiffer js
+rising-differ js h = rising-different (λ (j : Judged). j .listed .place) js h
+
 pub judged-different : (p : PolicySnapshot) (q : KernelInput) (bank : List ℕ) → PlacesDiffer (judgedOf p q bank)
-judged-different p q bank = rising-different (λ (j : Judged). j .listed .place) (judgedOf p q bank) (judged-rising p q bank)
+judged-different p q bank = rising-differ (judgedOf p q bank) (judged-rising p q bank)
 
 -- ---- exactly once
 

@@ -2,9 +2,9 @@
 -- no id at any setting; by any rule of cost. Assumes nothing: ids may repeat.
 use Rattle.rules.proofs.Kit.{ℕ, _<_, _≡_, refl, sym, ap, subst, _∙_, Bool, true, false, false≢true, _⊎_, inl, inr, List, [], some, arith, ne-eqb, length}
 use Rattle.rules.specs.{Records.Listed, Records.listedOf, Refused.bankFaults, Numbers.isRejection, Price.Cost, Price.costUnder, Decide.stoppedBy}
-use Rattle.rules.specs.{Decide.decisionBy, Decide.decisionOf, Listing.firstListed, Levers.Question, Levers.selects, Levers.decisionAt, Levers.wins}
-use Rattle.rules.specs.{Levers.boundaryOf, Win.ifOn, Win.winSearch, Win.winFor, Win.winBy, Win.whatWouldWinOf, declared.records.KernelInput.KernelInput}
-use Rattle.rules.specs.{declared.records.PolicySnapshot.PolicySnapshot, Printed.entriesOf}
+use Rattle.rules.specs.{Decide.decisionBy, Decide.decisionOf, Listing.Reading, Listing.everyRecord, Listing.firstListed, Levers.Question, Levers.selects}
+use Rattle.rules.specs.{Levers.decisionAt, Levers.wins, Levers.boundaryOf, Win.ifOn, Win.winSearch, Win.winFor, Win.winBy, Win.whatWouldWinOver}
+use Rattle.rules.specs.{Win.whatWouldWinOf, declared.records.KernelInput.KernelInput, declared.records.PolicySnapshot.PolicySnapshot, Printed.entriesOf}
 use Rattle.rules.proofs.Stopped.{stopped-rejects}
 use Rattle.demands.specs.Demand3.{question, Unselected, OffExact}
 use Rattle.demands.proofs.{Selected.rejection-selects-none, Selected.selects-chose, Selected.selected-chosen, Winning.answered-win}
@@ -66,22 +66,33 @@ module _ (costs : Cost) (p : PolicySnapshot) (q : KernelInput) (ls : List Listed
             missing = (λ s. w, λ s. k);
           }
 
--- ---- what would win, of a bank
+-- ---- what would win, however a bank is read, and with every record of it
 
 -- Demand 3. STOPPED BY A REQUEST LIMIT, OR SELECTED ALREADY: no entry
+pub unsearched-over-empty : (p : PolicySnapshot) (q : KernelInput) (b : Reading) (id : ℕ) (l : Listed) → b .faults ≡ [] → firstListed id (b .list) ≡ some l
+    → (0 < stoppedBy p q) ⊎ (selects id (decisionOf p q (b .list)) ≡ true) → entriesOf (whatWouldWinOver p q b id) ≡ []
+unsearched-over-empty p q b id l none first (inl h) =
+    ap entriesOf (answered-win p q b id none) ∙ stopped-empty (costUnder p) p q (b .list) id l first h
+unsearched-over-empty p q b id l none first (inr e) =
+    ap entriesOf (answered-win p q b id none) ∙ selected-empty (costUnder p) p q (b .list) id l first e
+
 pub unsearched-empty : (p : PolicySnapshot) (q : KernelInput) (bank : List ℕ) (id : ℕ) (l : Listed) → bankFaults bank ≡ []
     → firstListed id (listedOf bank) ≡ some l
     → (0 < stoppedBy p q) ⊎ (selects id (decisionOf p q (listedOf bank)) ≡ true)
     → entriesOf (whatWouldWinOf p q bank id) ≡ []
-unsearched-empty p q bank id l whole first (inl h) =
-    ap entriesOf (answered-win p q bank id whole) ∙ stopped-empty (costUnder p) p q (listedOf bank) id l first h
-unsearched-empty p q bank id l whole first (inr e) =
-    ap entriesOf (answered-win p q bank id whole) ∙ selected-empty (costUnder p) p q (listedOf bank) id l first e
+unfolding whatWouldWinOf
+unsearched-empty p q bank id l = unsearched-over-empty p q (everyRecord bank) id l
 
 -- Demand 3. SWITCHED OFF: enabled is listed exactly if switching it on selects the id
+pub off-over-exact : (p : PolicySnapshot) (q : KernelInput) (b : Reading) (id : ℕ) (l : Listed) → b .faults ≡ []
+    → Unselected (costUnder p) p q (b .list) id l → l .model .enabled ≡ 0
+    → OffExact (whatWouldWinOver p q b id) (question (costUnder p) p q (b .list) id (l .model))
+off-over-exact p q b id l none u off =
+    subst (λ answer. OffExact answer (question (costUnder p) p q (b .list) id (l .model))) (sym (answered-win p q b id none))
+    (off-exact (costUnder p) p q (b .list) id l u off)
+
 pub switched-off-exact : (p : PolicySnapshot) (q : KernelInput) (bank : List ℕ) (id : ℕ) (l : Listed) → bankFaults bank ≡ []
     → Unselected (costUnder p) p q (listedOf bank) id l → l .model .enabled ≡ 0
     → OffExact (whatWouldWinOf p q bank id) (question (costUnder p) p q (listedOf bank) id (l .model))
-switched-off-exact p q bank id l whole u off =
-    subst (λ answer. OffExact answer (question (costUnder p) p q (listedOf bank) id (l .model))) (sym (answered-win p q bank id whole))
-    (off-exact (costUnder p) p q (listedOf bank) id l u off)
+unfolding whatWouldWinOf
+switched-off-exact p q bank id l = off-over-exact p q (everyRecord bank) id l

@@ -6,6 +6,7 @@ use Rattle.rules.specs.{Validate.recordFaults, Validate.recordsFaults, Validate
 use Rattle.rules.specs.{declared.records.KernelModel.KernelModel, declared.records.PolicySnapshot.PolicySnapshot}
 use Rattle.rules.proofs.{Faults.none-first, Faults.none-after, Faults.none-found, Faults.test-none, Faults.below-none, Sorted.each-so, Sorted.each-middle}
 use Rattle.demands.specs.{Standing.UniqueIds, Demand3.BpsWithin, Demand3.Sound}
+use Rattle.demands.proofs.Lists.{each-front}
 
 -- ---- no fault of the records: ids differ, qualities and ceilings are within 10,000
 
@@ -32,10 +33,6 @@ record Accepted (earlier : List ℕ) (ls : List Listed) : Type 0 where
   unique : UniqueIds ls
   within : Each (λ l. BpsWithin 10000 (l .model)) ls
 
-front : {A : Type 0} (P : A → Type 0) (xs : List A) (y : A) → Each P (xs ++ (y ∷ [])) → Each P xs
-front P [] y h = tt
-front P (x ∷ xs) y h = (h .0, front P xs y (h .1))
-
 accepted : (earlier : List ℕ) (ls : List Listed) → recordsFaults earlier ls ≡ [] → Accepted earlier ls
 unfolding recordsFaults recordFaults
 accepted earlier [] e = record { fresh = tt; unique = tt; within = tt }
@@ -46,7 +43,7 @@ accepted earlier (l ∷ ls) e =
     record {
       fresh = (
         not-seen earlier id (none-first (repeatFaults earlier id) _ (none-first _ (modelFaults (l .model)) this)),
-        each-so _ _ (λ k h. front _ earlier id h) ls (r .fresh),
+        each-so _ _ (λ k h. each-front _ earlier (id ∷ []) h) ls (r .fresh),
       );
       unique = (each-so _ _ (λ k h. each-middle _ earlier id [] h) ls (r .fresh), r .unique);
       within = (model-within (l .model) (none-after (repeatFaults earlier id ++ providerFaults (l .model)) _ this), r .within);

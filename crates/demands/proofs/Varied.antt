@@ -1,16 +1,14 @@
 -- A list with a stand-in for the first listed record with an id; and so, with unique ids, a lever's settings turn once. Assumed for that: the
 -- cost doesn't fall where prices rise.
-use Rattle.rules.proofs.Kit.{ℕ, _≡_, refl, sym, ap, subst, _∙_, Bool, true, false, cond, List, [], _∷_, _++_, some, Option·some-injective}
-use Rattle.rules.proofs.Kit.{Option·none-ne-some}
+use Rattle.rules.proofs.Kit.{ℕ, _≡_, refl, sym, ap, subst, _∙_, Bool, true, false, cond, List, [], _∷_, _++_, some, Option·some-injective, Option·none-ne-some}
 use Rattle.rules.proofs.Kit.{eqb-true, eqb-false, eqb}
-use Rattle.rules.specs.{Choice.equal, Order.Each, Order.Pairs, Records.Listed, Records.listed, Price.Cost, Decide.decisionBy, Listing.firstListed}
-use Rattle.rules.specs.{Halving.Side}
-use Rattle.rules.specs.{Levers.leverAt, Levers.selects, Levers.varied, Levers.wins, Levers.decisionAt, declared.records.KernelModel.KernelModel}
+use Rattle.rules.specs.{Choice.equal, Records.Listed, Records.listed, Price.Cost, Decide.decisionBy, Listing.firstListed, Halving.Side, Levers.leverAt}
+use Rattle.rules.specs.{Levers.selects, Levers.varied, Levers.wins, Levers.decisionAt, declared.records.KernelModel.KernelModel}
 use Rattle.rules.specs.{declared.records.KernelInput.KernelInput, declared.records.PolicySnapshot.PolicySnapshot}
+use Rattle.rules.proofs.Sorted.{each-so}
 use Rattle.demands.specs.{Exact.Range, Exact.AtOrBetter, Exact.TurnsOnce, Standing.RisesWithPrices, Standing.Favours, Standing.Ordered, Standing.Lacks}
 use Rattle.demands.specs.{Standing.UniqueIds, Demand3.question}
-use Rattle.rules.proofs.Sorted.{each-so}
-use Rattle.demands.proofs.{Favours.as-good, Monotone.selection-monotone}
+use Rattle.demands.proofs.{Lists.pairs-after, Favours.as-good, Monotone.selection-monotone}
 
 -- ---- the first listed record with an id splits the list
 
@@ -51,14 +49,10 @@ split id (k ∷ ks) l e = go (eqb (k .model .«model_id») id) refl (λ f. split
         }
 
 -- with unique ids no record after it has the id either
-pairs-after : {A : Type 0} (R : A → A → Type 0) (xs ys : List A) (x : A) → Pairs R (xs ++ x ∷ ys) → Each (R x) ys
-pairs-after R [] ys x h = h .0
-pairs-after R (w ∷ xs) ys x h = pairs-after R xs ys x (h .1)
-
 lacks-after : (id : ℕ) (ls : List Listed) (l : Listed) → UniqueIds ls → (s : Split id ls l) → Lacks id (s .after)
 lacks-after id ls l u s =
     each-so _ _ (λ k n e. n (s .has ∙ sym e)) (s .after)
-    (pairs-after _ (s .before) (s .after) l (subst UniqueIds (s .whole) u))
+    (pairs-after _ (s .before) l (s .after) (subst UniqueIds (s .whole) u))
 
 -- ---- moving a lever
 

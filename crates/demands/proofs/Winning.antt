@@ -1,19 +1,17 @@
 -- DEMAND 3, first half: what `what_would_win` answers is exact. Assumed: unique ids; and over any list, a cost that doesn't fall where prices rise.
 use Rattle.rules.proofs.Kit.{ℕ, _≡_, refl, sym, ap, subst, _∙_, false, List, [], ne-eqb}
 use Rattle.rules.specs.{Limits.maxBps, Limits.ppm, Records.Listed, Records.listedOf, Refused.noFault, Refused.bankFaults, Price.Cost, Price.costUnder}
-use Rattle.rules.specs.{Decide.decisionBy, Halving.Lowest, Halving.Highest, Halving.searchOf, Levers.wins, Levers.boundaryOf, Win.winLevers, Win.winSearch}
-use Rattle.rules.specs.{Win.winFor, Win.winBy, Win.winIn, Win.whatWouldWinOf, declared.records.KernelInput.KernelInput}
-use Rattle.rules.specs.{declared.records.PolicySnapshot.PolicySnapshot, Printed.entriesOf}
+use Rattle.rules.specs.{Listing.Reading, Listing.everyRecord, Decide.decisionBy, Halving.Lowest, Halving.Highest, Halving.searchOf, Levers.wins}
+use Rattle.rules.specs.{Levers.boundaryOf, Win.winLevers, Win.winSearch, Win.winFor, Win.winBy, Win.winIn, Win.whatWouldWinOver, Win.whatWouldWinOf}
+use Rattle.rules.specs.{declared.records.KernelInput.KernelInput, declared.records.PolicySnapshot.PolicySnapshot, Printed.entriesOf}
 use Rattle.demands.specs.{Standing.RisesWithPrices, Standing.UniqueIds, Demand3.winQuality, Demand3.winLatency, Demand3.winPrice, Demand3.winCeiling}
 use Rattle.demands.specs.{Demand3.question, Demand3.Unselected, Demand3.SwitchedOn, Demand3.WinExact}
 use Rattle.demands.proofs.{Favours.quality-ordered, Favours.latency-ordered, Favours.price-ordered, Favours.ceiling-ordered, Varied.turns-once}
 use Rattle.demands.proofs.{Rounding.cost-rises, Entries.used-sought, Entries.not-refused, Entries.Answers, Entries.answers, Entries.won}
 
--- a bank without faults is answered over its records
-pub answered-win : (p : PolicySnapshot) (q : KernelInput) (bank : List ℕ) (id : ℕ) → bankFaults bank ≡ []
-    → whatWouldWinOf p q bank id ≡ winIn p q (listedOf bank) id
-unfolding whatWouldWinOf
-answered-win p q bank id e = rw e
+-- a bank that nothing refuses is answered over its records, however it is read
+pub answered-win : (p : PolicySnapshot) (q : KernelInput) (b : Reading) (id : ℕ) → b .faults ≡ [] → whatWouldWinOver p q b id ≡ winIn p q (b .list) id
+answered-win p q b id e = rw e
 
 module _ (costs : Cost) (p : PolicySnapshot) (q : KernelInput) (ls : List Listed) (id : ℕ) (l : Listed) (u : Unselected costs p q ls id l) where
   -- neither stopped nor selected: the search is made
@@ -52,11 +50,18 @@ module _ (costs : Cost) (p : PolicySnapshot) (q : KernelInput) (ls : List Listed
         whole = f .whole;
       }
 
--- Demand 3, first half. WHAT WOULD WIN IS EXACT, of a bank with unique ids, however the policy rounds: for a listed, switched-on model neither
--- selected nor stopped by a request limit
+-- Demand 3, first half. WHAT WOULD WIN IS EXACT, however a bank is read and its policy rounds, where nothing refuses it and its records have unique
+-- ids: for a listed, switched-on model neither selected nor stopped by a request limit
+pub win-over-exact : (p : PolicySnapshot) (q : KernelInput) (b : Reading) (id : ℕ) (l : Listed) → b .faults ≡ [] → UniqueIds (b .list)
+    → Unselected (costUnder p) p q (b .list) id l → SwitchedOn (l .model)
+    → WinExact (whatWouldWinOver p q b id) (question (costUnder p) p q (b .list) id (l .model))
+win-over-exact p q b id l none unique u on =
+    subst (λ answer. WinExact answer (question (costUnder p) p q (b .list) id (l .model))) (sym (answered-win p q b id none))
+    (win-exact (costUnder p) p q (b .list) id l u (cost-rises (p .rounding)) unique on)
+
+-- Demand 3, first half. So it is with every record of a bank
 pub what-would-win-exact : (p : PolicySnapshot) (q : KernelInput) (bank : List ℕ) (id : ℕ) (l : Listed) → bankFaults bank ≡ [] → UniqueIds (listedOf bank)
     → Unselected (costUnder p) p q (listedOf bank) id l → SwitchedOn (l .model)
     → WinExact (whatWouldWinOf p q bank id) (question (costUnder p) p q (listedOf bank) id (l .model))
-what-would-win-exact p q bank id l whole unique u on =
-    subst (λ answer. WinExact answer (question (costUnder p) p q (listedOf bank) id (l .model))) (sym (answered-win p q bank id whole))
-    (win-exact (costUnder p) p q (listedOf bank) id l u (cost-rises (p .rounding)) unique on)
+unfolding whatWouldWinOf
+what-would-win-exact p q bank id l = win-over-exact p q (everyRecord bank) id l

@@ -13,7 +13,7 @@ use Rattle.rules.specs.Refused.{noFault, bankFaults, unless}
 use Rattle.rules.specs.Numbers.{isRejection, Entry, Boundary}
 use Rattle.rules.specs.Price.{Cost, costUnder}
 use Rattle.rules.specs.Decide.{stoppedBy, decisionBy}
-use Rattle.rules.specs.Listing.{firstListed}
+use Rattle.rules.specs.Listing.{Reading, everyRecord, firstListed}
 use Rattle.rules.specs.Halving.{Side, Lowest, Highest, searchOf, searchAfterFarEnd, passesOf}
 use Rattle.rules.specs.Printed.{entriesOf}
 use Rattle.rules.specs.Levers.{Question, selects, decisionAt, wins, entry}
@@ -191,17 +191,20 @@ passesToWin a =
     (equal (a .model .enabled) 0 2 (winPasses a)))
     1
 
--- A refusal carries no count: neither an id that isn't listed nor a bank with a fault of its length has a pass
+-- A refusal carries no count: neither an id that isn't listed nor a bank that is refused has a pass
 abbrev pub passesIfListed : (Question → ℕ) → Cost → PolicySnapshot → KernelInput → List Listed → ℕ → Option Listed → ℕ
 passesIfListed passes costs p q ls id none = 0
 passesIfListed passes costs p q ls id (some l) = passes (question costs p q ls id (l .model))
 
--- The passes that `what_would_win` owes, in every case: over a list, and over a bank
+-- The passes that `what_would_win` owes, in every case: over a list; over a bank, however it is read; and with every record of it
 unfoldable pub passesToWinIn : Cost → PolicySnapshot → KernelInput → List Listed → ℕ → ℕ
 passesToWinIn costs p q ls id = passesIfListed passesToWin costs p q ls id (firstListed id ls)
 
+abbrev pub passesToWinOver : PolicySnapshot → KernelInput → Reading → ℕ → ℕ
+passesToWinOver p q b id = unless (b .faults) (λ f. 0) (passesToWinIn (costUnder p) p q (b .list) id)
+
 unfoldable pub passesToWinOf : PolicySnapshot → KernelInput → List ℕ → ℕ → ℕ
-passesToWinOf p q bank id = unless (bankFaults bank) (λ f. 0) (passesToWinIn (costUnder p) p q (listedOf bank) id)
+passesToWinOf p q bank id = passesToWinOver p q (everyRecord bank) id
 
 -- And those that `decision_margin` owes: none where the decision is a rejection, which is refused too
 unfoldable pub passesToKeepIn : Cost → PolicySnapshot → KernelInput → List Listed → ℕ
@@ -209,8 +212,11 @@ passesToKeepIn costs p q ls =
     let d = decisionBy costs p q ls in
     cond (isRejection d) 0 (passesIfListed marginPasses costs p q ls (d .model) (firstListed (d .model) ls))
 
+abbrev pub passesToKeepOver : PolicySnapshot → KernelInput → Reading → ℕ
+passesToKeepOver p q b = unless (b .faults) (λ f. 0) (passesToKeepIn (costUnder p) p q (b .list))
+
 unfoldable pub passesToKeepOf : PolicySnapshot → KernelInput → List ℕ → ℕ
-passesToKeepOf p q bank = unless (bankFaults bank) (λ f. 0) (passesToKeepIn (costUnder p) p q (listedOf bank))
+passesToKeepOf p q bank = passesToKeepOver p q (everyRecord bank)
 
 -- The most that a search for what would win takes; that a margin takes; and that one takes where quality and ceiling are within 10,000
 abbrev pub mostToWin : ℕ

@@ -8,6 +8,7 @@ use Rattle.rules.specs.Order.{Each, Pairs}
 use Rattle.rules.specs.Records.{listedOf}
 use Rattle.rules.specs.Numbers.{Decision}
 use Rattle.rules.specs.Verdict.{Judged, judged}
+use Rattle.rules.specs.Slots.{liveIn}
 use Rattle.rules.specs.Rank.{Candidate, better}
 use Rattle.rules.specs.Count.{Weight}
 use Rattle.rules.specs.Decide.{counterfactualId, counterfactualWorth}
@@ -22,9 +23,12 @@ Beats a b = better a b ≡ true
 abbrev pub InStrictOrder : List Candidate → Type 0
 InStrictOrder cs = Pairs Beats cs
 
--- The judged records of a bank
+-- The judged records of a bank, and its judged live ones
 abbrev pub judgedOf : PolicySnapshot → KernelInput → List ℕ → List Judged
 judgedOf p q bank = judged p q (listedOf bank)
+
+abbrev pub judgedLive : PolicySnapshot → KernelInput → List ℕ → List Judged
+judgedLive p q bank = judged p q (liveIn bank)
 
 -- The places of judged records rise, as those of a bank do, or are at least all different
 abbrev pub PlacesRise : List Judged → Type 0

@@ -1,5 +1,6 @@
--- Laws of the explanation: where its entries stand, and what refuses it.
+-- Laws of the explanation: which records it reads, where its entries stand, and what refuses it.
+pub mod Read
 pub mod Entries
 pub mod Stopped
-pub mod Rooms
+pub mod Readings
 pub mod Answers

@@ -2,13 +2,13 @@
 ghost use mathlib.Core.Path.{_≡_};
 ghost use Rattle.rules.specs.Numbers.{toldPrescribed};
 ghost use Rattle.rules.specs.Explain.{explainOf, explainList};
-use crate::list::explain_outcome;
-use crate::list::put_explanation;
-use kernel_decide::decide::decide;
+use crate::among::explain_among;
+use call_checks::refuse::bank_outcome;
 use rules::KernelInput;
 use rules::Outcome;
 use rules::PolicySnapshot;
 use rules::Prescribed;
+use rules::limits::RECORD_BYTES;
 
 // `explain`: the decision, and in the list what every record is told, 72 bytes each in the order of the bank; a stopped request lists
 // none. Refused: 1, 2, then 4 where this answer needs more room; a refused call leaves the list as it was.
@@ -21,10 +21,10 @@ pub fn explain(
     ensures answer { λ r. ⌜ toldPrescribed r ≡ explainOf policy input (now (bank .entry)) (now (list .entry)) ⌝ }
     ensures bytes { λ r. ⌜ now (list .exit) ≡ explainList policy input (now (bank .entry)) (now (list .entry)) ⌝ }
 {
-    let outcome = explain_outcome(policy, bank, input, list.len());
+    let outcome = bank_outcome(bank.len());
     if let Outcome::Refused(refusal) = outcome {
         return Prescribed::Refused(refusal);
     }
-    put_explanation(policy, bank, input, list);
-    Prescribed::Decided(decide(policy, bank, input))
+    let every = (bank.len() / RECORD_BYTES) as u16;
+    explain_among(policy, bank, input, every, list)
 }

@@ -1,5 +1,5 @@
-// For the library: what stands behind the exported functions that bound a decision. Each function takes the very slices of an exported one
-// and answers its word: 0, or the refusal's.
+// For the library: what stands behind the exported functions that bound a decision. Each function but the one that hands over takes the very
+// slices of an exported one and answers its word: 0, or the refusal's. That one serves the calls over live records as well.
 use bank::unchecked::input_of;
 use bank::unchecked::policy_of;
 use counterfactual_margin::decision_margin;
@@ -21,7 +21,7 @@ ghost use Rattle.export_checks.specs.Checks.{lent, handed};
 ghost use Rattle.export_bounds.specs.Bounds.{boundsIn, winCall, marginCall};
 
 // What a boundary call answers, where it has room.
-fn bounds_handed(answer: Boundaries, out: &mut [u8]) -> u64
+pub fn bounds_handed(answer: Boundaries, out: &mut [u8]) -> u64
     requires { ⌜ boundarySize ≤ length (now out) ⌝ }
     ensures { λ r. ⌜ (r, now (out .exit)) ≡ handed boundaryBytes [] (boundsIn (toldBoundaries answer)) (now (out .entry)) ⌝ }
 {

@@ -1,5 +1,5 @@
-// For the library: what stands behind the exported functions that decide and explain. Each function takes the very slices of an exported one
-// and answers its word: 0, or the refusal's.
+// For the library: what stands behind the exported functions that decide and explain. Each function but the two that hand over takes the very
+// slices of an exported one and answers its word: 0, or the refusal's. Those two serve the calls over live records as well.
 use bank::unchecked::input_of;
 use bank::unchecked::policy_of;
 use explain::explain;
@@ -25,7 +25,7 @@ ghost use Rattle.export_checks.specs.Checks.{lent, handed};
 ghost use Rattle.export_calls.specs.Calls.{prescribeCall, prescribeCheckedCall, explainCall};
 
 // A decision with its counts, where it has room.
-fn traced_handed(traced: Traced, out: &mut [u8]) -> u64
+pub fn traced_handed(traced: Traced, out: &mut [u8]) -> u64
     requires { ⌜ decisionSize ≤ length (now out) ⌝ }
     ensures { λ r. ⌜ (r, now (out .exit)) ≡ handed decisionBytes [] (toldTraced traced) (now (out .entry)) ⌝ }
 {
@@ -66,7 +66,7 @@ pub fn prescribe_checked_delivered(
 }
 
 // A decision alone, where it has room.
-fn decision_handed(prescribed: Prescribed, out: &mut [u8]) -> u64
+pub fn decision_handed(prescribed: Prescribed, out: &mut [u8]) -> u64
     requires { ⌜ uncountedSize ≤ length (now out) ⌝ }
     ensures { λ r. ⌜ (r, now (out .exit)) ≡ handed uncountedBytes [] (toldPrescribed prescribed) (now (out .entry)) ⌝ }
 {

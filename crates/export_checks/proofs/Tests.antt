@@ -1,11 +1,11 @@
 -- What tests that hand nothing back tell: the lengths, the bank, the room. Assumes nothing.
 use Rattle.rules.proofs.Kit.{ℕ, _<_, _≤_, _≡_, List, [], _∷_, _++_, arith, eq-eqb, ne-eqb, lt-ltb, length}
 use Rattle.rules.specs.{Limits.policyBytes, Limits.requestBytes, Limits.maxCatalogModels, Records.recordsIn, Refused.Faults, Refused.fault}
-use Rattle.rules.specs.{Refused.bankFaults}
+use Rattle.rules.specs.{Refused.bankFaults, Refused.sizeFaults}
 use Rattle.rules.specs.{Refused.roomFaults, Stored.policyByteFaults}
 use Rattle.rules.proofs.Faults.{none-first, none-after, equal-none, room-passed, few-records}
 use Rattle.unpacking_policy.proofs.Policies.{policy-long}
-use Rattle.export_checks.specs.Checks.{Lent, sizeFaults, lentFaults, callFaults}
+use Rattle.export_checks.specs.Checks.{Lent, thenRoom, afterPolicy, afterRequest, lentFaults, callFaults}
 
 module _ (have want : ℕ) where
   -- No 22: the length is the one that is wanted
@@ -18,6 +18,10 @@ module _ (have want : ℕ) where
   unfolding sizeFaults
   size-other h = rw (ne-eqb have want h)
 
+  pub size-none : have ≡ want → sizeFaults have want ≡ []
+  unfolding sizeFaults
+  size-none h = rw (eq-eqb have want h)
+
   pub size-same : {fs : Faults} → have ≡ want → sizeFaults have want ++ fs ≡ fs
   unfolding sizeFaults
   size-same h = rw (eq-eqb have want h)
@@ -27,24 +31,46 @@ pub room-first : (needed room : ℕ) → room < needed → roomFaults needed roo
 unfolding roomFaults
 room-first needed room h = rw (lt-ltb room needed h)
 
--- No 4: there is room
+-- ---- what opens a call, however the bank is read
+
+module _ (bank : Faults) (needed room : ℕ) (e : thenRoom bank needed room ≡ []) where
+  -- No 4: there is room
+  pub then-room : needed ≤ room
+  then-room = room-passed needed room (none-after bank (roomFaults needed room) e)
+
+module _ (policy : List ℕ) (bank : Faults) (needed room : ℕ) (e : afterPolicy policy bank needed room ≡ []) where
+  pub after-policy : policyBytes ≤ length policy
+  after-policy = policy-long policy (none-first _ _ e)
+
+  pub after-lent : thenRoom bank needed room ≡ []
+  after-lent = none-after (policyByteFaults policy) _ e
+
+module _ (l : Lent) (bank : Faults) (needed room : ℕ) (e : afterRequest l bank needed room ≡ []) where
+  pub after-request : requestBytes ≤ length (l .request)
+  after-request = let is = size-is (length (l .request)) requestBytes (none-first _ _ e) in omega arith
+
+  pub after-rest : afterPolicy (l .policy) bank needed room ≡ []
+  after-rest = none-after (sizeFaults (length (l .request)) requestBytes) _ e
+
+-- ---- and where every record of it is
+
 pub lent-room : (bank : List ℕ) (needed room : ℕ) → lentFaults bank needed room ≡ [] → needed ≤ room
-lent-room bank needed room e = room-passed needed room (none-after (bankFaults bank) (roomFaults needed room) e)
+lent-room bank needed room e = then-room (bankFaults bank) needed room e
 
 module _ (l : Lent) (needed room : ℕ) (e : callFaults l needed room ≡ []) where
-  after : policyByteFaults (l .policy) ++ lentFaults (l .bank) needed room ≡ []
+  rest : afterPolicy (l .policy) (bankFaults (l .bank)) needed room ≡ []
   unfolding callFaults
-  after = none-after (sizeFaults (length (l .request)) requestBytes) _ e
+  rest = after-rest l (bankFaults (l .bank)) needed room e
+
+  lending : lentFaults (l .bank) needed room ≡ []
+  lending = after-lent (l .policy) (bankFaults (l .bank)) needed room rest
 
   pub call-policy : policyBytes ≤ length (l .policy)
-  call-policy = policy-long (l .policy) (none-first _ _ after)
+  call-policy = after-policy (l .policy) (bankFaults (l .bank)) needed room rest
 
   pub call-request : requestBytes ≤ length (l .request)
   unfolding callFaults
-  call-request = let is = size-is (length (l .request)) requestBytes (none-first _ _ e) in omega arith
-
-  lending : lentFaults (l .bank) needed room ≡ []
-  lending = none-after (policyByteFaults (l .policy)) _ after
+  call-request = after-request l (bankFaults (l .bank)) needed room e
 
   -- what a call that takes them asks for
   pub call-lent : (policyBytes ≤ length (l .policy)) × (requestBytes ≤ length (l .request)) × (recordsIn (length (l .bank)) ≤ maxCatalogModels)

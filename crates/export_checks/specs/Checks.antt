@@ -1,15 +1,13 @@
 -- What opens an exported function: the faults of what is lent, a refusal as one word, and an answer handed over.
 use Prim.Native.Nat.{ℕ, _+_, _*_, _^_}
-use mathlib.Core.Bool.{not}
 use mathlib.Core.List.{List, [], _∷_, _++_}
 use mathlib.Core.Option.{Option, none, some}
-use lib.Dec.{eqb}
 use lib.ListN.{length}
 use Rattle.rules.specs.Limits.{requestBytes}
 use Rattle.rules.specs.Choice.{equal}
 use Rattle.rules.specs.Bytes.{filled}
 use Rattle.rules.specs.Records.{inputOf}
-use Rattle.rules.specs.Refused.{Fault, Faults, fault, refuseIf, bankFaults, roomFaults, Answer, refused, answered}
+use Rattle.rules.specs.Refused.{Fault, Faults, sizeFaults, bankFaults, roomFaults, Answer, refused, answered}
 use Rattle.rules.specs.Stored.{policyByteFaults}
 use Rattle.rules.specs.Decide.{requestFaults}
 
@@ -24,18 +22,25 @@ pub record Lent : Type 0 where
 abbrev pub lent : List ℕ → List ℕ → List ℕ → Lent
 lent policy request bank = record { policy = policy; request = request; bank = bank }
 
--- 22 where a request has another length than its own
-unfoldable pub sizeFaults : ℕ → ℕ → Faults
-sizeFaults have want = refuseIf (not (eqb have want)) (fault 22)
+-- What refuses the bank, however it is read, then 4: the buffer, which has room for so many bytes and needs so many
+abbrev pub thenRoom : Faults → ℕ → ℕ → Faults
+thenRoom bank needed room = bank ++ roomFaults needed room
 
--- 1, 2, 4: the bank, then the buffer, which has room for so many bytes and needs so many
+-- 22, 23, then those: the policy's length and how it rounds
+abbrev pub afterPolicy : List ℕ → Faults → ℕ → ℕ → Faults
+afterPolicy policy bank needed room = policyByteFaults policy ++ thenRoom bank needed room
+
+-- 22, 23, then those: the request's length before them
+abbrev pub afterRequest : Lent → Faults → ℕ → ℕ → Faults
+afterRequest l bank needed room = sizeFaults (length (l .request)) requestBytes ++ afterPolicy (l .policy) bank needed room
+
+-- 1, 2, 4
 abbrev pub lentFaults : List ℕ → ℕ → ℕ → Faults
-lentFaults bank needed room = bankFaults bank ++ roomFaults needed room
+lentFaults bank needed room = thenRoom (bankFaults bank) needed room
 
--- 22, 23, 1, 2, 4: the lengths of what comes in as bytes and how the policy rounds, then the bank and the buffer
+-- 22, 23, 1, 2, 4
 unfoldable pub callFaults : Lent → ℕ → ℕ → Faults
-callFaults l needed room =
-    sizeFaults (length (l .request)) requestBytes ++ (policyByteFaults (l .policy) ++ lentFaults (l .bank) needed room)
+callFaults l needed room = afterRequest l (bankFaults (l .bank)) needed room
 
 -- 22, 23, 1, 2, 4, 3: the request's fields besides
 abbrev pub checkedFaults : Lent → ℕ → ℕ → Faults

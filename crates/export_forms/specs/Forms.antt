@@ -5,10 +5,10 @@ use lib.ListN.{length}
 use Rattle.rules.specs.Limits.{recordBytes, requestBytes}
 use Rattle.rules.specs.Bytes.{bytesOf}
 use Rattle.rules.specs.Records.{inputOf, policyOf}
-use Rattle.rules.specs.Refused.{Faults, roomFaults, Answer, refused, answered}
+use Rattle.rules.specs.Refused.{Faults, sizeFaults, roomFaults, Answer, refused, answered}
 use Rattle.rules.specs.Listing.{readingFaults}
 use Rattle.rules.specs.Stored.{policyByteFaults, storedForm, writeFaults, requestForm}
-use Rattle.export_checks.specs.Checks.{wordAt, wordSize, sizeFaults, lentFaults, handed, itself}
+use Rattle.export_checks.specs.Checks.{wordAt, wordSize, lentFaults, handed, itself}
 
 -- ---- `volankizo_record_at`
 

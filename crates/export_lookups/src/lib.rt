@@ -1,5 +1,6 @@
 // For the library: what stands behind the exported functions that look something up, a model's utility, its place, the next eligible entry of
-// a list. Each function takes the very slices of an exported one and answers its word: 0, or the refusal's.
+// a list. Each function but the two that hand over takes the very slices of an exported one and answers its word: 0, or the refusal's. Those two
+// serve the calls over live records as well.
 use bank::unchecked::input_of;
 use bank::unchecked::policy_of;
 use endian_signs::signed_bits;
@@ -27,15 +28,15 @@ ghost use Rattle.export_checks.specs.Checks.{lent, wordSize, handed};
 ghost use Rattle.export_lookups.specs.Lookups.{utilityBytes, utilityCall, placeSize, placeBytes, findCall, nextOr, nextCall};
 
 // The bytes of a utility and of an entry's place, and of a model's place.
-const WORD_BYTES: usize = 8;
+pub const WORD_BYTES: usize = 8;
 
-const PLACE_BYTES: usize = 2;
+pub const PLACE_BYTES: usize = 2;
 
 // What is told in place of a next entry, where there is none.
 const NO_NEXT: u64 = 0xffff_ffff_ffff_ffff;
 
 // A utility, where it has room.
-fn utility_handed(found: UtilityFound, out: &mut [u8]) -> u64
+pub fn utility_handed(found: UtilityFound, out: &mut [u8]) -> u64
     requires { ⌜ wordSize ≤ length (now out) ⌝ }
     ensures { λ r. ⌜ (r, now (out .exit)) ≡ handed utilityBytes [] (toldUtility found) (now (out .entry)) ⌝ }
 {
@@ -60,7 +61,7 @@ pub fn utility_delivered(policy: &[u8], request: &[u8], bank: &[u8], id: u32, ou
 }
 
 // A model's place, where it has room.
-fn found_handed(found: Found, out: &mut [u8]) -> u64
+pub fn found_handed(found: Found, out: &mut [u8]) -> u64
     requires { ⌜ placeSize ≤ length (now out) ⌝ }
     ensures { λ r. ⌜ (r, now (out .exit)) ≡ handed placeBytes [] (toldFound found) (now (out .entry)) ⌝ }
 {

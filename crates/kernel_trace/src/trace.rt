@@ -24,7 +24,7 @@ use rules::Traced;
 use rules::limits::RECORD_BYTES;
 
 // A decision's trace.
-pub(crate) fn trace_of(decision: KernelDecision, counts: RejectionHistogram) -> DecisionTrace
+pub fn trace_of(decision: KernelDecision, counts: RejectionHistogram) -> DecisionTrace
     ensures { λ r. ⌜ r ≡ traceOf (toldDecision decision) counts ⌝ }
 {
     DecisionTrace {

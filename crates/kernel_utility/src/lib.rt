@@ -1,5 +1,5 @@
-// For other crates: the utility of one model. Its record is a part of a bank like any other, so a scan of that part says it. Users have the
-// call from `kernel`, which passes it on.
+// For other crates: the utility of one model. Its record is a part of a bank like any other, so a scan of that part says it. Users have
+// `utility_for_model` from `kernel`, which passes it on.
 ghost use mathlib.Core.Path.{_≡_};
 ghost use Prim.Native.Nat.{_<_, _≤_};
 ghost use lib.ListN.{length};
@@ -50,7 +50,7 @@ fn utility_at(policy: PolicySnapshot, bank: &[u8], input: KernelInput, place: u1
 }
 
 // The utility of the first listed model with an id, in a bank of whole records.
-fn utility_in(policy: PolicySnapshot, bank: &[u8], input: KernelInput, id: u32) -> UtilityFound
+pub fn utility_in(policy: PolicySnapshot, bank: &[u8], input: KernelInput, id: u32) -> UtilityFound
     requires { ⌜ recordsIn (length (now bank)) ≤ maxCatalogModels ⌝ }
     ensures { λ r. ⌜ toldUtility r ≡ utilityIn policy input id (listedOf (now (bank .entry))) ⌝ }
 {

@@ -4,7 +4,7 @@
 const UNKNOWN: u64 = 0xffff_ffff_ffff_ffff;
 
 // 1 to 5: the kernel's calls.
-pub(crate) fn kernel_call(
+fn kernel_call(
     call: u8,
     id: u32,
     policy: &[u8],
@@ -23,7 +23,7 @@ pub(crate) fn kernel_call(
 }
 
 // 6 to 11, but for 9: those above it.
-pub(crate) fn call_above(
+fn call_above(
     call: u8,
     id: u32,
     place: u64,
@@ -44,7 +44,7 @@ pub(crate) fn call_above(
 }
 
 // 12 to 19: a record's offset, the two forms, and what is printed.
-pub(crate) fn form_call(
+fn form_call(
     call: u8,
     id: u32,
     place: u64,
@@ -65,4 +65,76 @@ pub(crate) fn form_call(
         19 => volankizo::volankizo_ask_words(bytes, id, out),
         _ => UNKNOWN,
     }
+}
+
+// 20 to 26: those on the live records of a bank.
+fn live_call(
+    call: u8,
+    id: u32,
+    policy: &[u8],
+    request: &[u8],
+    bytes: &[u8],
+    space: &mut [u8],
+    out: &mut [u8],
+) -> u64 {
+    match call {
+        20 => volankizo::volankizo_live_prescribe(policy, request, bytes, out),
+        21 => volankizo::volankizo_live_prescribe_checked(policy, request, bytes, out),
+        22 => volankizo::volankizo_live_explain(policy, request, bytes, space, out),
+        23 => volankizo::volankizo_live_find(bytes, id, out),
+        24 => volankizo::volankizo_live_utility_for_model(policy, request, bytes, id, out),
+        25 => volankizo::volankizo_live_what_would_win(policy, request, bytes, id, out),
+        26 => volankizo::volankizo_live_decision_margin(policy, request, bytes, out),
+        _ => UNKNOWN,
+    }
+}
+
+// 9 and 27 to 30: those that change a bank in its place, and but for 9 the policy too.
+fn edit_call(
+    call: u8,
+    id: u32,
+    policy: &mut [u8],
+    bank: &mut [u8],
+    record: &[u8],
+    out: &mut [u8],
+) -> u64 {
+    match call {
+        9 => volankizo::volankizo_trust(policy, bank),
+        27 => volankizo::volankizo_live_add(policy, bank, record, out),
+        28 => volankizo::volankizo_live_replace(policy, bank, record, out),
+        29 => volankizo::volankizo_live_remove(policy, bank, id, out),
+        30 => volankizo::volankizo_live_compact(policy, bank, out),
+        _ => UNKNOWN,
+    }
+}
+
+// Whether a call changes a bank in its place.
+pub(crate) fn changes_bank(call: u8) -> bool {
+    call == 9 || 27 <= call
+}
+
+// The call with this number. What is offered to an edit stands in the request's place, and the bank that is changed in that of the space.
+pub(crate) fn called(
+    call: u8,
+    id: u32,
+    place: u64,
+    policy: &mut [u8],
+    request: &[u8],
+    bytes: &[u8],
+    space: &mut [u8],
+    out: &mut [u8],
+) -> u64 {
+    if changes_bank(call) {
+        return edit_call(call, id, policy, space, request, out);
+    }
+    if call <= 5 {
+        return kernel_call(call, id, policy, request, bytes, out);
+    }
+    if call <= 11 {
+        return call_above(call, id, place, policy, request, bytes, space, out);
+    }
+    if call <= 19 {
+        return form_call(call, id, place, policy, request, bytes, space, out);
+    }
+    live_call(call, id, policy, request, bytes, space, out)
 }

@@ -1,9 +1,8 @@
 // One entry of the list. Its first byte says who told the answer: 1 the Rust, 2 a second reading of the rules, 3 both. Then the call's number,
-// the id or the place that it takes (8 bytes), five lengths of two bytes, the policy, the request, the bytes that are read, the word that is
-// owed, and the space and the buffer as they are owed after the call.
-use crate::calls::call_above;
-use crate::calls::form_call;
-use crate::calls::kernel_call;
+// the id or the place that it takes (8 bytes), five lengths of two bytes, the policy, the request or the record that is offered, the bytes that are
+// read, the word that is owed, and the policy, the space and the buffer as they are owed after the call.
+use crate::calls::called;
+use crate::calls::changes_bank;
 use endian::u16_at;
 use endian::u32_at;
 use endian::u64_at;
@@ -29,15 +28,12 @@ fn cut() -> Entry
 // The bytes before the policy.
 const HEADER: usize = 20;
 
-// The most bytes of a space or a buffer, and what fills them before the call.
+// The most bytes of a policy, a space or a buffer, and what fills them before the call.
 const ROOM: usize = 1_024;
 
 const FILL: u8 = 165;
 
-// The call that orders a bank in its place.
-const TRUST: u8 = 9;
-
-// Where the parts that are read end, and how long the space and the buffer are.
+// How long the policy is, where the other parts that are read end, and how long the space and the buffer are.
 struct Parts {
     policy: usize,
     request: usize,
@@ -48,11 +44,11 @@ struct Parts {
 
 fn parts_of(list: &[u8]) -> Parts
     requires { ⌜ 20 ≤ length (now list) ⌝ }
-    ensures order { λ r. ⌜ (20 ≤ r .policy) × (r .policy ≤ r .request) × (r .request ≤ r .bytes) × (r .bytes ≤ 196625) ⌝ }
-    ensures widths { λ r. ⌜ (r .space ≤ 65535) × (r .buffer ≤ 65535) ⌝ }
+    ensures order { λ r. ⌜ (20 + r .policy ≤ r .request) × (r .request ≤ r .bytes) × (r .bytes ≤ 196625) ⌝ }
+    ensures widths { λ r. ⌜ (r .policy ≤ 65535) × (r .space ≤ 65535) × (r .buffer ≤ 65535) ⌝ }
 {
-    let policy = HEADER + u16_at(list, 10) as usize;
-    let request = policy + u16_at(list, 12) as usize;
+    let policy = u16_at(list, 10) as usize;
+    let request = HEADER + policy + u16_at(list, 12) as usize;
     let bytes = request + u16_at(list, 14) as usize;
     let space = u16_at(list, 16) as usize;
     let buffer = u16_at(list, 18) as usize;
@@ -65,12 +61,13 @@ fn parts_of(list: &[u8]) -> Parts
     }
 }
 
-// The call on the first bytes of a space and of a buffer.
+// The call on the first bytes of a policy's room, of a space and of a buffer.
 fn call_within(
     call: u8,
     id: u32,
     place: u64,
-    policy: &[u8],
+    policy: &mut [u8],
+    numbers: usize,
     request: &[u8],
     bytes: &[u8],
     space: &mut [u8],
@@ -78,114 +75,118 @@ fn call_within(
     buffer: &mut [u8],
     out: usize,
 ) -> u64
-    requires { ⌜ (room ≤ length (now space)) × (out ≤ length (now buffer)) ⌝ }
+    requires { ⌜ (numbers ≤ length (now policy)) × (room ≤ length (now space)) × (out ≤ length (now buffer)) ⌝ }
 {
-    let lent = &mut space[0..room];
-    let written = &mut buffer[0..out];
-    if call <= 5 {
-        return kernel_call(call, id, policy, request, bytes, written);
-    }
-    if call <= 11 {
-        return call_above(call, id, place, policy, request, bytes, lent, written);
-    }
-    form_call(call, id, place, policy, request, bytes, lent, written)
-}
-
-// What the call of an entry hands back. The policy, the request and the bytes end at these places.
-fn answer(
-    list: &[u8],
-    policy: usize,
-    request: usize,
-    told: usize,
-    space: &mut [u8],
-    room: usize,
-    buffer: &mut [u8],
-    out: usize,
-) -> u64
-    requires { ⌜ (20 ≤ policy) × (policy ≤ request) × (request ≤ told) × (told ≤ length (now list)) × (room ≤ length (now space)) × (out ≤ length (now buffer)) ⌝ }
-{
-    call_within(
-        list[1],
-        u32_at(list, 2),
-        u64_at(list, 2),
-        &list[HEADER..policy],
-        &list[policy..request],
-        &list[request..told],
-        space,
-        room,
-        buffer,
-        out,
+    called(
+        call,
+        id,
+        place,
+        &mut policy[0..numbers],
+        request,
+        bytes,
+        &mut space[0..room],
+        &mut buffer[0..out],
     )
 }
 
-// Whether the word and the bytes of the space and of the buffer are those that stand at a place of the list.
-fn owed(list: &[u8], told: usize, word: u64, space: &[u8], buffer: &[u8]) -> bool
-    requires { ⌜ told + 8 + length (now space) + length (now buffer) ≤ length (now list) ⌝ }
+// Whether the word and the first bytes of the three rooms are those that stand at a place of the list.
+fn owed(
+    list: &[u8],
+    told: usize,
+    word: u64,
+    policy: &[u8],
+    numbers: usize,
+    space: &[u8],
+    room: usize,
+    buffer: &[u8],
+    out: usize,
+) -> bool
+    requires { ⌜ (numbers ≤ length (now policy)) × (room ≤ length (now space)) × (out ≤ length (now buffer)) × (told + 8 + numbers + room + out ≤ length (now list)) ⌝ }
 {
-    let filled = told + 8;
-    let written = filled + space.len();
-    let end = written + buffer.len();
+    let changed = told + 8;
+    let filled = changed + numbers;
+    let written = filled + room;
     if u64_at(list, told) != word {
         return false;
     }
-    if !check::same(&list[filled..written], space) {
+    if !check::same(&list[changed..filled], &policy[0..numbers]) {
         return false;
     }
-    check::same(&list[written..end], buffer)
+    if !check::same(&list[filled..written], &space[0..room]) {
+        return false;
+    }
+    check::same(&list[written..written + out], &buffer[0..out])
 }
 
-// Orders the first bytes of a space.
-fn trust_in(policy: &[u8], space: &mut [u8], room: usize) -> u64
-    requires { ⌜ room ≤ length (now space) ⌝ }
+// Whether a call answers as it owes: the word, and every byte of the policy, of the space and of the buffer. The policy's room begins with a copy
+// of it, and so does the space with one of a bank that is changed.
+fn replays(
+    list: &[u8],
+    numbers: usize,
+    request: usize,
+    told: usize,
+    policy: &mut [u8],
+    space: &mut [u8],
+    room: usize,
+    out: usize,
+) -> bool
+    requires { ⌜ (20 + numbers ≤ request) × (request ≤ told) × (numbers ≤ length (now policy)) × (room ≤ length (now space)) × (out ≤ 1024) × (told + 8 + numbers + room + out ≤ length (now list)) ⌝ }
 {
-    volankizo::volankizo_trust(policy, &mut space[0..room])
-}
-
-// Whether the call that orders a bank in its place answers as it owes: the space is a copy of the bytes.
-fn replays_trust(list: &[u8], policy: usize, request: usize, told: usize) -> bool
-    requires { ⌜ (20 ≤ policy) × (policy ≤ request) × (request ≤ told) × (told ≤ request + 1024) × (told + 8 + told ≤ length (now list) + request) ⌝ }
-{
-    let room = told - request;
-    let mut space = [FILL; ROOM];
-    put_bytes(&mut space, 0, &list[request..told]);
-    let word = trust_in(&list[HEADER..policy], &mut space, room);
-    owed(list, told, word, &space[0..room], &list[0..0])
-}
-
-// Whether any other call does: the word, and every byte of the space and of the buffer.
-fn replays(list: &[u8], policy: usize, request: usize, told: usize, room: usize, out: usize) -> bool
-    requires { ⌜ (20 ≤ policy) × (policy ≤ request) × (request ≤ told) × (room ≤ 1024) × (out ≤ 1024) × (told + 8 + room + out ≤ length (now list)) ⌝ }
-{
-    let mut space = [FILL; ROOM];
     let mut buffer = [FILL; ROOM];
-    let word = answer(
-        list,
+    let word = call_within(
+        list[1],
+        u32_at(list, 2),
+        u64_at(list, 2),
         policy,
-        request,
-        told,
-        &mut space,
+        numbers,
+        &list[HEADER + numbers..request],
+        &list[request..told],
+        space,
         room,
         &mut buffer,
         out,
     );
-    owed(list, told, word, &space[0..room], &buffer[0..out])
+    owed(list, told, word, policy, numbers, space, room, &buffer, out)
 }
 
-// Whether an entry with these parts is answered as it owes. A bank that is ordered is as long before as after.
-fn replayed(list: &[u8], parts: Parts) -> bool
-    requires { ⌜ (20 ≤ parts .policy) × (parts .policy ≤ parts .request) × (parts .request ≤ parts .bytes) × (parts .space ≤ 1024) × (parts .buffer ≤ 1024) × (parts .bytes + 8 + parts .space + parts .buffer ≤ length (now list)) ⌝ }
+// A copy of a bank that is changed, in the space; false where the space is of another length, since a bank is as long before as after.
+fn bank_lent(call: u8, bytes: &[u8], space: &mut [u8], room: usize) -> bool
+    requires { ⌜ room ≤ length (now space) ⌝ }
 {
-    let policy = parts.policy;
+    if !changes_bank(call) {
+        return true;
+    }
+    if bytes.len() != room {
+        return false;
+    }
+    put_bytes(space, 0, bytes);
+    true
+}
+
+// Whether an entry with these parts is answered as it owes.
+fn replayed(list: &[u8], parts: Parts) -> bool
+    requires { ⌜ (parts .policy ≤ 1024) × (20 + parts .policy ≤ parts .request) × (parts .request ≤ parts .bytes) × (parts .space ≤ 1024) × (parts .buffer ≤ 1024) × (parts .bytes + 8 + parts .policy + parts .space + parts .buffer ≤ length (now list)) ⌝ }
+{
+    let numbers = parts.policy;
     let request = parts.request;
     let told = parts.bytes;
     let room = parts.space;
-    if list[1] != TRUST {
-        return replays(list, policy, request, told, room, parts.buffer);
-    }
-    if told - request != room {
+    let mut policy = [FILL; ROOM];
+    let mut space = [FILL; ROOM];
+    put_bytes(&mut policy, 0, &list[HEADER..HEADER + numbers]);
+    if !bank_lent(list[1], &list[request..told], &mut space, room) {
         return false;
     }
-    replays_trust(list, policy, request, told)
+    replays(
+        list,
+        numbers,
+        request,
+        told,
+        &mut policy,
+        &mut space,
+        room,
+        parts.buffer,
+    )
 }
 
 // The first entry of what is left of the list.
@@ -196,10 +197,10 @@ pub(crate) fn first(list: &[u8]) -> Entry
         return cut();
     }
     let parts = parts_of(list);
-    if ROOM < parts.space || ROOM < parts.buffer {
+    if ROOM < parts.policy || ROOM < parts.space || ROOM < parts.buffer {
         return cut();
     }
-    let size = parts.bytes + 8 + parts.space + parts.buffer;
+    let size = parts.bytes + 8 + parts.policy + parts.space + parts.buffer;
     if list.len() < size {
         return cut();
     }

@@ -8,7 +8,7 @@ use libc::STDIN_FILENO;
 use libc::STDOUT_FILENO;
 
 fn main() {
-    let mut space = [0u8; 409_600];
+    let mut space = [0u8; 589_824];
     let n = io::read_full(STDIN_FILENO, &mut space);
     let told = list::replayed(&space[..n]);
     io::print_decimal(STDOUT_FILENO, told.answers);

@@ -17,6 +17,7 @@ pub mod Strict
 pub mod Sorted
 pub mod Better
 pub mod Chunks
+pub mod Slots
 pub mod Example
 pub mod Opened
 pub mod Rows

@@ -7,7 +7,8 @@ use Rattle.rules.specs.{Stored.roundingFaults, Stored.readPolicyOf, Stor
 use Rattle.rules.specs.{Stored.storedForm, Stored.requestForm, Stored.writeFaults}
 use Rattle.rules.specs.{Stored.writeStoredOf, Stored.writeStoredBuffer, Stored.readFaults, Stored.readStoredOf, Stored.readStoredBuffer}
 use Rattle.rules.specs.{Stored.writeRequestOf, Stored.writeRequestBuffer, Stored.readRequestOf, Refused.firstFault, Refused.lengthFaults}
-use Rattle.rules.specs.{Refused.roomFaults, Listing.readingFaults, Listing.readingOf, Listing.recordOf, Listing.recordStart, Listing.firstListed}
+use Rattle.rules.specs.{Refused.sizeFaults, Refused.roomFaults, Listing.readingFaults, Listing.readingOf, Listing.recordOf, Listing.recordStart}
+use Rattle.rules.specs.{Listing.firstListed}
 use Rattle.rules.specs.{Listing.findOf, Decide.requestFaults, Decide.requestCheck, Validate.policyFaults, Validate.emptyFaults, Validate.repeatFaults}
 use Rattle.rules.specs.{Validate.providerFaults, Validate.modelFaults, Validate.recordFaults, Validate.recordsFaults, Validate.offFaults}
 use Rattle.rules.specs.{Validate.catalogFaults, Validate.validateOf, Trust.reservedFaults, Trust.flagFaults, Trust.earlyFaults, Trust.recordsFrom}
@@ -19,12 +20,19 @@ use Rattle.rules.specs.{Count.gateReason}
 use Rattle.rules.specs.{Count.countedFor, Count.raisedBy, Count.countsFrom, Count.countsOf, Count.heavier, Count.dominantOf, Decide.stoppedBy}
 use Rattle.rules.specs.{Decide.rejection, Decide.executedAs, Decide.chosen, Decide.byVerdicts, Decide.decisionBy, Decide.countsIn, Decide.traceOf}
 use Rattle.rules.specs.{Decide.prescribeOf, Decide.prescribeCheckedOf, Decide.prescribeTracedOf, Decide.prescribeTracedCheckedOf, Decide.utilityIn}
-use Rattle.rules.specs.{Decide.utilityForModelOf, Explain.explanationRecord, Explain.explained, Explain.explanationOf, Explain.explainFaults}
-use Rattle.rules.specs.{Explain.explainOf, Explain.explainList, Explain.verdictAt, Explain.eligibleFrom, Explain.nextEligibleOf, Batch.batchFaults}
-use Rattle.rules.specs.{Batch.requestsFaults, Batch.batchCheckedFaults, Batch.decisionsOf, Batch.batchOf, Batch.batchRow, Batch.batchCheckedOf}
+use Rattle.rules.specs.{Decide.utilityForModelOf, Explain.explanationRecord, Explain.explained, Explain.explanationOf}
+use Rattle.rules.specs.{Explain.explainOf, Explain.explainList, Explain.verdictAt, Explain.eligibleFrom, Explain.nextEligibleOf}
+use Rattle.rules.specs.{Batch.requestsFaults, Batch.decisionsOf, Batch.batchOf, Batch.batchRow, Batch.batchCheckedOf}
 use Rattle.rules.specs.{Batch.batchCheckedRow, Halving.halveIn, Halving.searchOf, Halving.searchAfterFarEnd, Levers.leverAt, Levers.selects}
 use Rattle.rules.specs.{Levers.varied, Levers.decisionAt, Levers.wins, Levers.boundaryOf, View.withModel, View.viewOf, Win.winLevers, Win.winSearch}
 use Rattle.rules.specs.{Win.winFor, Win.winBy, Win.whatWouldWinOf, Margin.marginLevers, Margin.marginFor, Margin.marginBy, Margin.decisionMarginOf}
+use Rattle.rules.specs.{Slots.isBlank, Slots.slotFaults, Slots.liveFaults, Slots.liveBy, Slots.slotWith, Slots.lowestFree, Edits.offeredFaults}
+use Rattle.rules.specs.{Edits.spentFaults, Edits.compactFaults, Edits.editFaults, Edits.addFaults, Edits.slotToAdd, Edits.slotToReplace}
+use Rattle.rules.specs.{Edits.slotToRemove, Edits.raisedOf, Edits.addOf, Edits.addBank, Edits.replaceOf, Edits.replaceBank, Edits.removeOf}
+use Rattle.rules.specs.{Edits.removeBank, Edits.closedUp, Edits.compacted, Edits.compactOf, Edits.compactBank, Live.livePrescribeOf}
+use Rattle.rules.specs.{Live.livePrescribeCheckedOf, Live.livePrescribeTracedOf, Live.livePrescribeTracedCheckedOf, Live.liveFindOf}
+use Rattle.rules.specs.{Live.liveUtilityForModelOf, Live.liveExplainOf, Live.liveExplainList, Live.liveBatchOf, Live.liveBatchRow}
+use Rattle.rules.specs.{Live.liveBatchCheckedOf, Live.liveBatchCheckedRow, Live.liveWhatWouldWinOf, Live.liveDecisionMarginOf}
 use Rattle.rules.specs.{Text.text, Text.digitsOf, Text.decimal, Text.signedDecimal, Text.spaced, Text.line, Printed.decisionLine, Printed.countsLine}
 use Rattle.rules.specs.{Printed.costText, Printed.leverLine, Printed.leverLines, Printed.passesLine, Printed.refusedLine, Printed.programFaults}
 use Rattle.rules.specs.{Printed.unitReport, Printed.unitText, Printed.askFaults, Printed.askReport, Printed.askText, Printed.printOf}
@@ -50,7 +58,7 @@ writing = tt
 -- ---- numbers handed back: of a bank, a request, a catalogue
 
 refusing : Unit {0}
-unfolding firstFault lengthFaults roomFaults readingFaults readingOf recordOf recordStart firstListed findOf requestFaults requestCheck
+unfolding firstFault lengthFaults sizeFaults roomFaults readingFaults readingOf recordOf recordStart firstListed findOf requestFaults requestCheck
 refusing = tt
 
 validating : Unit {0}
@@ -80,11 +88,11 @@ unfolding prescribeOf prescribeCheckedOf prescribeTracedOf prescribeTracedChecke
 prescribing = tt
 
 explaining : Unit {0}
-unfolding explanationRecord explained explanationOf explainFaults explainOf explainList verdictAt eligibleFrom nextEligibleOf
+unfolding explanationRecord explained explanationOf explainOf explainList verdictAt eligibleFrom nextEligibleOf
 explaining = tt
 
 batching : Unit {0}
-unfolding batchFaults requestsFaults batchCheckedFaults decisionsOf batchOf batchRow batchCheckedOf batchCheckedRow
+unfolding requestsFaults decisionsOf batchOf batchRow batchCheckedOf batchCheckedRow
 batching = tt
 
 -- ---- boundaries: the halving, the levers, the calls
@@ -96,6 +104,28 @@ searching = tt
 bounding : Unit {0}
 unfolding winLevers winSearch winFor winBy whatWouldWinOf marginLevers marginFor marginBy decisionMarginOf
 bounding = tt
+
+-- ---- a bank whose models are swapped
+
+slotting : Unit {0}
+unfolding isBlank slotFaults liveFaults liveBy slotWith lowestFree
+slotting = tt
+
+editing : Unit {0}
+unfolding offeredFaults spentFaults compactFaults editFaults addFaults slotToAdd slotToReplace slotToRemove raisedOf
+editing = tt
+
+changing : Unit {0}
+unfolding editing addOf addBank replaceOf replaceBank removeOf removeBank closedUp compacted compactOf compactBank
+changing = tt
+
+answering : Unit {0}
+unfolding livePrescribeOf livePrescribeCheckedOf livePrescribeTracedOf livePrescribeTracedCheckedOf liveFindOf liveUtilityForModelOf
+answering = tt
+
+living : Unit {0}
+unfolding answering liveExplainOf liveExplainList liveBatchOf liveBatchRow liveBatchCheckedOf liveBatchCheckedRow liveWhatWouldWinOf liveDecisionMarginOf
+living = tt
 
 -- ---- what is printed: numbers, lines, the programs' answers
 
@@ -120,5 +150,6 @@ speaking = tt
 -- ---- all of them
 
 unfoldable pub rules : Unit {0}
-unfolding bytes writing refusing validating trusting judging ordering deciding prescribing explaining batching searching bounding printing reporting speaking
+unfolding bytes writing refusing validating trusting judging ordering deciding prescribing explaining batching searching bounding slotting changing living
+    printing reporting speaking
 rules = tt

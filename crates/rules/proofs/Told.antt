@@ -53,6 +53,17 @@ refusalFrom f =
     ∷ refusal.WrongTag
     ∷ refusal.WrongLength
     ∷ refusal.UnknownRounding
+    ∷ refusal.UnevenBank
+    ∷ refusal.UnevenBank
+    ∷ refusal.UnevenBank
+    ∷ refusal.EpochSpent
+    ∷ refusal.NoFreeSlot
+    ∷ refusal.UnevenBank
+    ∷ refusal.UnevenBank
+    ∷ refusal.UnevenBank
+    ∷ refusal.UnevenBank
+    ∷ refusal.UnevenBank
+    ∷ refusal.SlotNotClear
     ∷ [])
     (f .number)
     refusal.UnevenBank
@@ -80,6 +91,9 @@ refusal-back refusal.CutShort = refl
 refusal-back refusal.WrongTag = refl
 refusal-back refusal.WrongLength = refl
 refusal-back refusal.UnknownRounding = refl
+refusal-back refusal.EpochSpent = refl
+refusal-back refusal.NoFreeSlot = refl
+refusal-back refusal.SlotNotClear = refl
 
 abbrev pub outcomeFrom : Option Fault → Outcome
 outcomeFrom none = outcome.Answered

@@ -7,10 +7,10 @@ use lib.IntN.{ℤ, pos}
 use lib.ListN.{length}
 use Rattle.rules.specs.Limits.{maxBps, noPlace}
 use Rattle.rules.specs.Choice.{below, atLeast, equal}
-use Rattle.rules.specs.Records.{Listed, listedOf}
-use Rattle.rules.specs.Refused.{Fault, Faults, fault, inputFault, firstFault, bankFaults, Answer, refused, answered, unless, refuseIf}
+use Rattle.rules.specs.Records.{Listed}
+use Rattle.rules.specs.Refused.{Fault, Faults, fault, inputFault, firstFault, Answer, refused, answered, unless, refuseIf}
 use Rattle.rules.specs.Numbers.{Decision, DecisionAndTrace, Verdict, whereEligible}
-use Rattle.rules.specs.Listing.{firstListed}
+use Rattle.rules.specs.Listing.{Reading, everyRecord, firstListed}
 use Rattle.rules.specs.Price.{Cost, costUnder}
 use Rattle.rules.specs.Verdict.{Judged, judgedBy, judged, verdictOf}
 use Rattle.rules.specs.Rank.{Candidate, ranking}
@@ -109,18 +109,31 @@ requestFaults q place = tooHigh place 1 (q .«risk_bps») ++ tooHigh place 2 (q 
 unfoldable pub requestCheck : KernelInput → Option Fault
 requestCheck q = firstFault (requestFaults q 0)
 
--- N23. `prescribe`, `prescribe_checked`, `prescribe_with_trace` and `prescribe_with_trace_checked` over a bank
+-- N23. `prescribe`, `prescribe_checked`, `prescribe_with_trace` and `prescribe_with_trace_checked` over a bank, however it is read
+abbrev pub prescribeOver : PolicySnapshot → KernelInput → Reading → Answer Decision
+prescribeOver p q b = unless (b .faults) refused (answered (decisionOf p q (b .list)))
+
+abbrev pub prescribeCheckedOver : PolicySnapshot → KernelInput → Reading → Answer Decision
+prescribeCheckedOver p q b = unless (b .faults ++ requestFaults q 0) refused (answered (decisionOf p q (b .list)))
+
+abbrev pub prescribeTracedOver : PolicySnapshot → KernelInput → Reading → Answer DecisionAndTrace
+prescribeTracedOver p q b = unless (b .faults) refused (answered (tracedOf p q (b .list)))
+
+abbrev pub prescribeTracedCheckedOver : PolicySnapshot → KernelInput → Reading → Answer DecisionAndTrace
+prescribeTracedCheckedOver p q b = unless (b .faults ++ requestFaults q 0) refused (answered (tracedOf p q (b .list)))
+
+-- and with every record of it
 unfoldable pub prescribeOf : PolicySnapshot → KernelInput → List ℕ → Answer Decision
-prescribeOf p q bank = unless (bankFaults bank) refused (answered (decisionOf p q (listedOf bank)))
+prescribeOf p q bank = prescribeOver p q (everyRecord bank)
 
 unfoldable pub prescribeCheckedOf : PolicySnapshot → KernelInput → List ℕ → Answer Decision
-prescribeCheckedOf p q bank = unless (bankFaults bank ++ requestFaults q 0) refused (answered (decisionOf p q (listedOf bank)))
+prescribeCheckedOf p q bank = prescribeCheckedOver p q (everyRecord bank)
 
 unfoldable pub prescribeTracedOf : PolicySnapshot → KernelInput → List ℕ → Answer DecisionAndTrace
-prescribeTracedOf p q bank = unless (bankFaults bank) refused (answered (tracedOf p q (listedOf bank)))
+prescribeTracedOf p q bank = prescribeTracedOver p q (everyRecord bank)
 
 unfoldable pub prescribeTracedCheckedOf : PolicySnapshot → KernelInput → List ℕ → Answer DecisionAndTrace
-prescribeTracedCheckedOf p q bank = unless (bankFaults bank ++ requestFaults q 0) refused (answered (tracedOf p q (listedOf bank)))
+prescribeTracedCheckedOf p q bank = prescribeTracedCheckedOver p q (everyRecord bank)
 
 -- N7. The utility of one model: refused where the request is stopped, the id isn't listed, or its first listed record isn't eligible
 abbrev pub ifEligible : Verdict → Answer ℤ
@@ -133,5 +146,8 @@ ifListed p q (some l) = ifEligible (verdictOf p q (l .model))
 unfoldable pub utilityIn : PolicySnapshot → KernelInput → ℕ → List Listed → Answer ℤ
 utilityIn p q id ls = below 0 (stoppedBy p q) (refused (fault 7)) (ifListed p q (firstListed id ls))
 
+abbrev pub utilityForModelOver : PolicySnapshot → KernelInput → ℕ → Reading → Answer ℤ
+utilityForModelOver p q id b = unless (b .faults) refused (utilityIn p q id (b .list))
+
 unfoldable pub utilityForModelOf : PolicySnapshot → KernelInput → ℕ → List ℕ → Answer ℤ
-utilityForModelOf p q id bank = unless (bankFaults bank) refused (utilityIn p q id (listedOf bank))
+utilityForModelOf p q id bank = utilityForModelOver p q id (everyRecord bank)

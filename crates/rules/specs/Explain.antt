@@ -8,9 +8,10 @@ use mir.Val.{ofZ}
 use Rattle.rules.specs.Limits.{explanationBytes}
 use Rattle.rules.specs.Choice.{below, equal}
 use Rattle.rules.specs.Bytes.{numberAt, packed}
-use Rattle.rules.specs.Records.{Listed, listedOf}
-use Rattle.rules.specs.Refused.{Faults, bankFaults, roomFaults, listUnless, Answer, answered, unless, refused}
+use Rattle.rules.specs.Records.{Listed}
+use Rattle.rules.specs.Refused.{Faults, roomFaults, listUnless, Answer, answered, unless, refused}
 use Rattle.rules.specs.Numbers.{Decision}
+use Rattle.rules.specs.Listing.{Reading, everyRecord}
 use Rattle.rules.specs.Verdict.{Judged, judged}
 use Rattle.rules.specs.Decide.{stoppedBy, decisionOf}
 use Rattle.rules.specs.declared.records.KernelInput.{KernelInput}
@@ -39,16 +40,23 @@ explained (j ∷ js) = explanationRecord j ++ explained js
 unfoldable pub explanationOf : PolicySnapshot → KernelInput → List Listed → List ℕ
 explanationOf p q ls = below 0 (stoppedBy p q) [] (explained (judged p q ls))
 
--- N4. `explain`: 4 only where this answer needs more room
-unfoldable pub explainFaults : PolicySnapshot → KernelInput → List ℕ → List ℕ → Faults
-explainFaults p q bank list = bankFaults bank ++ roomFaults (length (explanationOf p q (listedOf bank))) (length list)
+-- N4. `explain` over a bank, however it is read: 4 only where this answer needs more room
+abbrev pub explainFaultsOver : PolicySnapshot → KernelInput → Reading → List ℕ → Faults
+explainFaultsOver p q b list = b .faults ++ roomFaults (length (explanationOf p q (b .list))) (length list)
 
-unfoldable pub explainOf : PolicySnapshot → KernelInput → List ℕ → List ℕ → Answer Decision
-explainOf p q bank list = unless (explainFaults p q bank list) refused (answered (decisionOf p q (listedOf bank)))
+abbrev pub explainOver : PolicySnapshot → KernelInput → Reading → List ℕ → Answer Decision
+explainOver p q b list = unless (explainFaultsOver p q b list) refused (answered (decisionOf p q (b .list)))
 
 -- B9, N24. The list at exit
+abbrev pub explainListOver : PolicySnapshot → KernelInput → Reading → List ℕ → List ℕ
+explainListOver p q b list = listUnless (explainFaultsOver p q b list) (explanationOf p q (b .list)) list
+
+-- and with every record of it
+unfoldable pub explainOf : PolicySnapshot → KernelInput → List ℕ → List ℕ → Answer Decision
+explainOf p q bank list = explainOver p q (everyRecord bank) list
+
 unfoldable pub explainList : PolicySnapshot → KernelInput → List ℕ → List ℕ → List ℕ
-explainList p q bank list = listUnless (explainFaults p q bank list) (explanationOf p q (listedOf bank)) list
+explainList p q bank list = explainListOver p q (everyRecord bank) list
 
 -- X6. Of a list of whole explanation records: how many so many bytes hold, and the verdict byte of the one at a place
 abbrev pub entriesIn : ℕ → ℕ

@@ -1,4 +1,5 @@
--- Document 01 as definitions, in the order of its sections; sizes, limits, choices by a test and lists in order come first. A reader has only these to believe.
+-- Documents 01 and 02 as definitions, in the order of their sections; sizes, limits, choices by a test and lists in order come first. A reader has only
+-- these to believe.
 pub mod Limits
 pub mod Choice
 pub mod Order
@@ -29,6 +30,10 @@ pub mod Levers
 pub mod View
 pub mod Win
 pub mod Margin
+-- a bank whose models are swapped, of document 02
+pub mod Slots
+pub mod Edits
+pub mod Live
 -- what the programs print
 pub mod Text
 pub mod Printed

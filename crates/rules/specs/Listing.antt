@@ -1,4 +1,4 @@
--- Document 01, "Bytes" and "Boundaries": a record read at its place, and the first listed record with an id.
+-- Document 01, "Bytes" and "Boundaries": how a bank is read, a record read at its place, and the first listed record with an id.
 use lib.Dec.{ltb}
 use Prim.Native.Nat.{ℕ, _*_}
 use mathlib.Core.Bool.{not}
@@ -9,6 +9,15 @@ use Rattle.rules.specs.Limits.{recordBytes}
 use Rattle.rules.specs.Choice.{equal}
 use Rattle.rules.specs.Records.{Listed, listedOf, recordsIn, recordPart}
 use Rattle.rules.specs.Refused.{Fault, Faults, fault, firstFault, bankFaults, Answer, answered, unless, refused, refuseIf}
+
+-- How a bank is read: what refuses it, and the records that a call runs over
+pub record Reading : Type 0 where
+  pub faults : Faults
+  pub list : List Listed
+
+-- N1, N2, B4. Every record of it
+abbrev pub everyRecord : List ℕ → Reading
+everyRecord bank = record { faults = bankFaults bank; list = listedOf bank }
 
 -- N8. Reading a record: the place is beyond the bank
 unfoldable pub readingFaults : List ℕ → ℕ → Faults
@@ -35,5 +44,8 @@ abbrev pub placeOf : Option Listed → Option ℕ
 placeOf none = none
 placeOf (some l) = some (l .place)
 
+abbrev pub findOver : ℕ → Reading → Answer (Option ℕ)
+findOver id b = unless (b .faults) refused (answered (placeOf (firstListed id (b .list))))
+
 unfoldable pub findOf : ℕ → List ℕ → Answer (Option ℕ)
-findOf id bank = unless (bankFaults bank) refused (answered (placeOf (firstListed id (listedOf bank))))
+findOf id bank = findOver id (everyRecord bank)

@@ -5,12 +5,12 @@ use mathlib.Core.List.{List}
 use mathlib.Core.Option.{Option, none, some}
 use Rattle.rules.specs.Limits.{maxU32, ppm, maxPriceScale}
 use Rattle.rules.specs.Choice.{pick}
-use Rattle.rules.specs.Records.{Listed, listedOf}
-use Rattle.rules.specs.Refused.{fault, bankFaults, unless}
+use Rattle.rules.specs.Records.{Listed}
+use Rattle.rules.specs.Refused.{fault, unless}
 use Rattle.rules.specs.Numbers.{Decision, isRejection, Boundary}
 use Rattle.rules.specs.Price.{Cost, costUnder}
 use Rattle.rules.specs.Decide.{decisionBy}
-use Rattle.rules.specs.Listing.{firstListed}
+use Rattle.rules.specs.Listing.{Reading, everyRecord, firstListed}
 use Rattle.rules.specs.Halving.{Lowest, Highest, searchOf, searchAfterFarEnd}
 use Rattle.rules.specs.Levers.{Question, wins, Sought, plain, priced, andThen, boundaryOf, boundaryRefused}
 use Rattle.rules.specs.declared.records.KernelInput.{KernelInput}
@@ -42,6 +42,9 @@ marginBy costs p q ls = marginFor costs p q ls (decisionBy costs p q ls)
 abbrev pub marginIn : PolicySnapshot → KernelInput → List Listed → Boundary
 marginIn p q ls = marginBy (costUnder p) p q ls
 
--- N23. `decision_margin` over a bank
+-- N23. `decision_margin` over a bank, however it is read, and with every record of it
+abbrev pub decisionMarginOver : PolicySnapshot → KernelInput → Reading → Boundary
+decisionMarginOver p q b = unless (b .faults) boundaryRefused (marginIn p q (b .list))
+
 unfoldable pub decisionMarginOf : PolicySnapshot → KernelInput → List ℕ → Boundary
-decisionMarginOf p q bank = unless (bankFaults bank) boundaryRefused (marginIn p q (listedOf bank))
+decisionMarginOf p q bank = decisionMarginOver p q (everyRecord bank)

@@ -27,6 +27,8 @@ use Rattle.rules.specs.declared.forms.StoredRead.{StoredRead}
 use Rattle.rules.specs.declared.forms.StoredRead.the-variants as stored
 use Rattle.rules.specs.declared.forms.PolicyRead.{PolicyRead}
 use Rattle.rules.specs.declared.forms.PolicyRead.the-variants as policy
+use Rattle.rules.specs.declared.edits.Edited.{Edited}
+use Rattle.rules.specs.declared.edits.Edited.the-variants as edited
 use Rattle.rules.specs.declared.forms.RequestRead.{RequestRead}
 use Rattle.rules.specs.declared.forms.RequestRead.the-variants as request
 use Rattle.rules.specs.declared.forms.Written.{Written}
@@ -140,6 +142,15 @@ pub record StoredPolicy : Type 0 where
 abbrev pub toldStored : StoredRead → Answer StoredPolicy
 toldStored (stored.Refused r) = refused (toldRefusal r)
 toldStored (stored.Read p size) = answered (record { policy = p; size = size })
+
+-- S7. What an edit answers: the policy with its catalogue epoch raised, and beside it the slot, or of a compaction how many records are live
+pub record EditedPolicy : Type 0 where
+  pub policy : PolicySnapshot
+  pub number : ℕ
+
+abbrev pub toldEdited : Edited → Answer EditedPolicy
+toldEdited (edited.Refused r) = refused (toldRefusal r)
+toldEdited (edited.Done p number) = answered (record { policy = p; number = number })
 
 -- B11. Reading a request form, and writing: how many bytes were written
 abbrev pub toldRequest : RequestRead → Answer KernelInput

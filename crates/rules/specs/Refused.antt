@@ -62,6 +62,9 @@ toldRefusal refusal.CutShort = fault 20
 toldRefusal refusal.WrongTag = fault 21
 toldRefusal refusal.WrongLength = fault 22
 toldRefusal refusal.UnknownRounding = fault 23
+toldRefusal refusal.EpochSpent = fault 27
+toldRefusal refusal.NoFreeSlot = fault 28
+toldRefusal refusal.SlotNotClear = fault 34
 
 -- What an outcome tells: nothing where it answers, else its refusal's number
 abbrev pub noFault : Option Fault
@@ -104,6 +107,10 @@ lengthFaults n = refuseIf (not (eqb (n % recordBytes) 0)) (fault 1) ++ refuseIf 
 
 abbrev pub bankFaults : List ℕ → Faults
 bankFaults bank = lengthFaults (length bank)
+
+-- N22. Bytes that come in with another length than theirs
+unfoldable pub sizeFaults : ℕ → ℕ → Faults
+sizeFaults have want = refuseIf (not (eqb have want)) (fault 22)
 
 -- N4. A list, row or buffer with so much room, where so much is needed
 unfoldable pub roomFaults : ℕ → ℕ → Faults

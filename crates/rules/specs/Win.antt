@@ -6,12 +6,12 @@ use mathlib.Core.Option.{Option, none, some}
 use lib.Dec.{eqb}
 use Rattle.rules.specs.Limits.{maxBps, ppm}
 use Rattle.rules.specs.Choice.{pick}
-use Rattle.rules.specs.Records.{Listed, listedOf}
-use Rattle.rules.specs.Refused.{fault, bankFaults, unless}
+use Rattle.rules.specs.Records.{Listed}
+use Rattle.rules.specs.Refused.{fault, unless}
 use Rattle.rules.specs.Numbers.{Decision, Boundary}
 use Rattle.rules.specs.Price.{Cost, costUnder}
 use Rattle.rules.specs.Decide.{stoppedBy, decisionBy}
-use Rattle.rules.specs.Listing.{firstListed}
+use Rattle.rules.specs.Listing.{Reading, everyRecord, firstListed}
 use Rattle.rules.specs.Halving.{Lowest, Highest, searchOf}
 use Rattle.rules.specs.Levers.{Question, wins, selects, Sought, entry, plain, priced, andThen, noSearch, boundaryOf, boundaryRefused}
 use Rattle.rules.specs.declared.records.KernelInput.{KernelInput}
@@ -54,6 +54,9 @@ winBy costs p q ls id = winIfListed costs p q ls id (firstListed id ls)
 abbrev pub winIn : PolicySnapshot → KernelInput → List Listed → ℕ → Boundary
 winIn p q ls id = winBy (costUnder p) p q ls id
 
--- N23. `what_would_win` over a bank
+-- N23. `what_would_win` over a bank, however it is read, and with every record of it
+abbrev pub whatWouldWinOver : PolicySnapshot → KernelInput → Reading → ℕ → Boundary
+whatWouldWinOver p q b id = unless (b .faults) boundaryRefused (winIn p q (b .list) id)
+
 unfoldable pub whatWouldWinOf : PolicySnapshot → KernelInput → List ℕ → ℕ → Boundary
-whatWouldWinOf p q bank id = unless (bankFaults bank) boundaryRefused (winIn p q (listedOf bank) id)
+whatWouldWinOf p q bank id = whatWouldWinOver p q (everyRecord bank) id

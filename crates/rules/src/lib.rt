@@ -3,6 +3,7 @@
 // decision.
 pub mod boundary;
 pub mod decision;
+pub mod edits;
 pub mod forms;
 pub mod limits;
 pub mod records;
@@ -24,6 +25,7 @@ pub use decision::Prescribed;
 pub use decision::RejectionHistogram;
 pub use decision::Traced;
 pub use decision::UtilityFound;
+pub use edits::Edited;
 pub use forms::PolicyRead;
 pub use forms::RequestRead;
 pub use forms::StoredRead;

@@ -66,6 +66,12 @@ pub enum Refusal {
     WrongLength,
     // 23
     UnknownRounding,
+    // 27: the catalogue epoch is at its largest.
+    EpochSpent,
+    // 28
+    NoFreeSlot,
+    // 34: a slot with id 0 has another byte set.
+    SlotNotClear,
 }
 
 // Whether a call was refused, where it answers nothing else or its answer stands beside this.
@@ -107,6 +113,9 @@ impl Refusal {
             Refusal::WrongTag => 21,
             Refusal::WrongLength => 22,
             Refusal::UnknownRounding => 23,
+            Refusal::EpochSpent => 27,
+            Refusal::NoFreeSlot => 28,
+            Refusal::SlotNotClear => 34,
         }
     }
 }

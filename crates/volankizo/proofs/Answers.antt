@@ -1,5 +1,5 @@
 -- ANY TWO PERMITTED ANSWERS ARE EQUAL, for each exported function. What it leaves is its word; its word and the buffer that it may write; or these and
--- a second buffer. Assumes nothing.
+-- a second buffer; or these and the policy and the bank that it edits. Assumes nothing.
 use Rattle.rules.proofs.Kit.{ℕ, List}
 use Rattle.rules.specs.{Refused.firstFault, Printed.unitText, Printed.askText, Words.askWords}
 use Rattle.rules.proofs.Told.{Same, one-itself}
@@ -10,6 +10,10 @@ use Rattle.export_calls.specs.Calls.{prescribeCall, prescribeCheckedCall, expla
 use Rattle.export_lookups.specs.Lookups.{utilityCall, findCall, nextCall}
 use Rattle.export_catalogue.specs.Catalogue.{validateFaults, trustCall}
 use Rattle.export_bounds.specs.Bounds.{winCall, marginCall}
+use Rattle.export_live_calls.specs.LiveCalls.{livePrescribeCall, livePrescribeCheckedCall, liveExplainCall}
+use Rattle.export_live_lookups.specs.LiveLookups.{liveFindCall, liveUtilityCall}
+use Rattle.export_live_bounds.specs.LiveBounds.{liveWinCall, liveMarginCall}
+use Rattle.export_edits.specs.Edits.{Stock, addCall, replaceCall, removeCall, compactCall}
 use Rattle.export_texts.specs.Texts.{textCall}
 
 module _ (l : Lent) (policy request bank form list input out : List ℕ) (id place from : ℕ) where
@@ -69,3 +73,40 @@ module _ (l : Lent) (policy request bank form list input out : List ℕ) (id pla
 
   pub one-ask-words : Same (λ r. r) (textCall (askWords id input) out)
   one-ask-words = one-itself _
+
+-- ---- over live records, and the edits of a bank
+
+module _ (l : Lent) (bank list out : List ℕ) (id : ℕ) where
+  pub one-live-prescribe : Same (λ r. r) (livePrescribeCall l out)
+  one-live-prescribe = one-itself _
+
+  pub one-live-prescribe-checked : Same (λ r. r) (livePrescribeCheckedCall l out)
+  one-live-prescribe-checked = one-itself _
+
+  pub one-live-explain : Same (λ r. r) (liveExplainCall l list out)
+  one-live-explain = one-itself _
+
+  pub one-live-find : Same (λ r. r) (liveFindCall bank id out)
+  one-live-find = one-itself _
+
+  pub one-live-utility-for-model : Same (λ r. r) (liveUtilityCall l id out)
+  one-live-utility-for-model = one-itself _
+
+  pub one-live-what-would-win : Same (λ r. r) (liveWinCall l id out)
+  one-live-what-would-win = one-itself _
+
+  pub one-live-decision-margin : Same (λ r. r) (liveMarginCall l out)
+  one-live-decision-margin = one-itself _
+
+module _ (k : Stock) (r out : List ℕ) (id : ℕ) where
+  pub one-live-add : Same (λ r. r) (addCall k r out)
+  one-live-add = one-itself _
+
+  pub one-live-replace : Same (λ r. r) (replaceCall k r out)
+  one-live-replace = one-itself _
+
+  pub one-live-remove : Same (λ r. r) (removeCall k id out)
+  one-live-remove = one-itself _
+
+  pub one-live-compact : Same (λ r. r) (compactCall k out)
+  one-live-compact = one-itself _

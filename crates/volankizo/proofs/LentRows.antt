@@ -1,10 +1,10 @@
 -- Rows on what refuses a policy's bytes where they are lent beside others (document 02, d): a request's length first, then the policy's, then how it
 -- rounds, all before the bank. Assumes nothing.
 use Rattle.rules.proofs.Kit.{ℕ, refl, List, [], _∷_, _++_, map, Option, some, take}
-use Rattle.rules.specs.{Refused.Fault, Refused.fault, Refused.firstFault}
+use Rattle.rules.specs.{Refused.Fault, Refused.fault, Refused.firstFault, Refused.sizeFaults}
 use Rattle.rules.proofs.{Opened.rules, Rows.Row, Rows.says, Example.bank, Example.modelOne, Example.modelTwo, Example.policy, Example.request}
 use Rattle.rules.proofs.Example.{uneven}
-use Rattle.export_checks.specs.Checks.{lent, sizeFaults, callFaults}
+use Rattle.export_checks.specs.Checks.{lent, callFaults}
 use Rattle.export_catalogue.specs.Catalogue.{validateFaults, trustFaults, trustCall}
 use Rattle.export_forms.specs.Forms.{writeStoredFaults}
 

@@ -1,12 +1,13 @@
-// The static library's exported functions: here decisions and what explains, checks and bounds them; in `forms` a record's offset, stored and
-// request forms, printed texts. They speak bytes and numbers: a policy is 30 bytes, or 31 of which the last says how it rounds (0 apart, 1
-// once), a request 70, a bank 47 for each record.
+// The static library's thirty exported functions: here decisions and what explains, checks and bounds them; in `forms` a record's offset, stored
+// and request forms, printed texts; in `live` a bank whose models are swapped, decided over and edited. They speak bytes and numbers: a policy is
+// 30 bytes, or 31 of which the last says how it rounds (0 apart, 1 once), a request 70, a bank 47 for each record.
 // A refusal comes back as one word, number + 2^8 field + 2^16 value + 2^32 (id or place), and 0 where the call answered. A refused
 // call writes nothing, but for a trusted bank that was ordered before it was refused. An answer goes to the start of `out`, which
 // overlaps nothing else that is lent, and the bytes after it stay as they were.
 // The promise of each is one equation for the word and every byte of each writable buffer, so any two permitted answers are equal.
 // Each hands on to one function of the crates `export_..` with the same promise.
 pub mod forms;
+pub mod live;
 
 use export_bounds::margin_delivered;
 use export_bounds::win_delivered;
@@ -27,6 +28,17 @@ pub use forms::volankizo_record_at;
 pub use forms::volankizo_unit_text;
 pub use forms::volankizo_write_request;
 pub use forms::volankizo_write_stored;
+pub use live::volankizo_live_add;
+pub use live::volankizo_live_compact;
+pub use live::volankizo_live_decision_margin;
+pub use live::volankizo_live_explain;
+pub use live::volankizo_live_find;
+pub use live::volankizo_live_prescribe;
+pub use live::volankizo_live_prescribe_checked;
+pub use live::volankizo_live_remove;
+pub use live::volankizo_live_replace;
+pub use live::volankizo_live_utility_for_model;
+pub use live::volankizo_live_what_would_win;
 ghost use mathlib.Core.Path.{_≡_};
 ghost use Rattle.rules.specs.Refused.{firstFault};
 ghost use Rattle.export_checks.specs.Checks.{lent, wordOf, checkFaults};

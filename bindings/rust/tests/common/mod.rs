@@ -1,5 +1,6 @@
 //! The worked example, and a seeded source of numbers.
 #![allow(dead_code)]
+use volankizo::live::FREE_SLOT;
 use volankizo::{Bank, KernelInput, KernelModel, PolicySnapshot, Rounding, ALL_PROVIDERS};
 
 pub const POLICY: PolicySnapshot = PolicySnapshot {
@@ -60,6 +61,12 @@ pub const UNIT_INPUT: &[u8] = include_bytes!("../../../../crates/unit/stdin");
 
 pub fn example_bank() -> Bank {
     Bank::from_models(&[FIRST, SECOND])
+}
+
+/// A bank of slots, the free ones as nothing.
+pub fn slots(slots: &[Option<KernelModel>]) -> Bank {
+    let bytes = slots.iter().flat_map(|slot| slot.map_or(FREE_SLOT, |model| model.to_bytes()));
+    Bank::from_bytes(bytes.collect())
 }
 
 /// As many models as asked for, with the ids from 1 on.

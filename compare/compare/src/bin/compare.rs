@@ -2,7 +2,10 @@
 //! so many decisions as `count` says and the other sets by their share of it, all rounding apart; then half as many of each set, rounding either
 //! way. The library against the Rust and the second reading. PROGRAM calls the library (`answer/answer.c`), with the emulator before it where one
 //! is needed. Ends with 1 at the first difference.
-use compare::calls::{Disagreement, CALLS, CHECKED, EXPLAIN, MARGIN, PRESCRIBE, WIN};
+use compare::calls::{
+    Disagreement, CALLS, CHECKED, EXPLAIN, LIVE_CHECKED, LIVE_EXPLAIN, LIVE_MARGIN, LIVE_PRESCRIBE, LIVE_WIN, MARGIN,
+    PRESCRIBE, WIN,
+};
 use compare::case::Case;
 use compare::figures::{Figures, Table, SEARCHED};
 use compare::generate::{Asked, Draw, Policies, Space, DRAWS, SPACES};
@@ -169,8 +172,9 @@ impl Run {
         let of_each: Vec<String> =
             CALLS.iter().enumerate().map(|(at, call)| format!("{} {}", call.name, asked(at))).collect();
         let searches = |call: usize| sets.iter().filter_map(move |set| set.found.get(&(call, SEARCHED.into())));
-        let searched: u64 = [WIN, MARGIN].into_iter().flat_map(searches).sum();
-        let decisions: u64 = [PRESCRIBE, CHECKED, EXPLAIN].into_iter().map(asked).sum();
+        let searched: u64 = [WIN, MARGIN, LIVE_WIN, LIVE_MARGIN].into_iter().flat_map(searches).sum();
+        let decisions = [PRESCRIBE, CHECKED, EXPLAIN, LIVE_PRESCRIBE, LIVE_CHECKED, LIVE_EXPLAIN];
+        let decisions: u64 = decisions.into_iter().map(asked).sum();
         println!("{}", of_each.join(", "));
         println!(
             "{} calls, {decisions} of them decisions and {searched} boundary searches of more than 2 passes, in {} s: 0 differences",

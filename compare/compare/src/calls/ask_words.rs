@@ -34,7 +34,6 @@ fn answer(ask: &Ask, judge: &dyn Judge) -> Answer {
 
 fn report(judge: &dyn Judge, question: &Question, id: u32) -> Result<String, Refusal> {
     let found = program::boundaries(judge, question, id)?;
-    let listed = question.models.iter().find(|model| model.model_id == id);
-    let off = listed.is_some_and(|model| model.enabled == 0);
+    let off = question.listed(id).is_some_and(|model| model.enabled == 0);
     Ok(ask_words(id, off, &found))
 }

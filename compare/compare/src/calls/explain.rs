@@ -1,8 +1,8 @@
 //! `explain`: the decision, and a record for each model.
-use super::{question, Answer, Call, Handed, PLAIN};
+use super::{bank, question, Answer, Call, Handed, PLAIN};
 use crate::case::Ask;
 use crate::judges::Judge;
-use crate::second::bytes::{decision_bytes, DECISION_BYTES, RECORD_BYTES};
+use crate::second::bytes::{decision_bytes, DECISION_BYTES};
 use crate::second::deciding::is_stopped;
 use crate::second::explanation::{explanation_bytes, EXPLANATION_BYTES};
 use crate::second::refusals::{self, Passed};
@@ -21,15 +21,15 @@ fn need(_: &Ask) -> usize {
     DECISION_BYTES
 }
 
-/// A record for each model. A stopped request needs none, and may be lent this much all the same.
+/// A record for each listed model. A stopped request needs none, and may be lent this much all the same.
 fn list_need(ask: &Ask) -> usize {
-    ask.bank.len() / RECORD_BYTES * EXPLANATION_BYTES
+    ask.listing.many(ask.bank) * EXPLANATION_BYTES
 }
 
 /// 22, 23, 1, 2, 4 for the buffer, then 4 for the list: no record goes there where the request is stopped.
 fn second(ask: &Ask) -> Passed {
     refusals::policy_and_request(ask.policy, ask.request)?;
-    refusals::bank(ask.bank)?;
+    bank(ask)?;
     refusals::room(ask.room, DECISION_BYTES)?;
     refusals::room(ask.list_room, if is_stopped(&question(ask)) { 0 } else { list_need(ask) })
 }

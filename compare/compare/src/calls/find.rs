@@ -1,8 +1,8 @@
 //! `find`: the place of the first listed record with an id.
-use super::{Answer, Call, Handed, PLAIN};
+use super::{bank, Answer, Call, Handed, PLAIN};
 use crate::case::Ask;
 use crate::judges::Judge;
-use crate::second::bytes::{first_listed, PLACE_BYTES};
+use crate::second::bytes::PLACE_BYTES;
 use crate::second::refusals::{self, Passed};
 
 pub const CALL: Call =
@@ -14,11 +14,11 @@ fn need(_: &Ask) -> usize {
 
 /// 1, 2, 4.
 fn second(ask: &Ask) -> Passed {
-    refusals::bank(ask.bank)?;
+    bank(ask)?;
     refusals::room(ask.room, PLACE_BYTES)
 }
 
 /// The Rust has no call for this, and takes the first listed record wherever it looks an id up.
 fn answer(ask: &Ask, _: &dyn Judge) -> Answer {
-    Answer::of(first_listed(ask.bank, ask.id).to_le_bytes().to_vec()).second()
+    Answer::of(ask.listing.first(ask.bank, ask.id).to_le_bytes().to_vec()).second()
 }

@@ -1,19 +1,22 @@
-//! A module for each exported function. A new call is a module with the same parts, a line in `CALLS` below and one in the table of
-//! `answer/answer.c`.
+//! A module for each exported function, but for those on live records: `live` has the siblings of those that read a bank, `edits` those that change
+//! one. A new call is a module with the same parts, a line in `CALLS` below and one in the table of `answer/answer.c`.
 use crate::case::{hex, Ask, Case};
 use crate::judges::{Judge, Reading, TheRust};
-use crate::second::bytes::{models_of, policy_of, request_of};
+use crate::second::bytes::{policy_of, request_of};
 use crate::second::deciding::Question;
 use crate::second::refusals::{self, Passed, Refusal};
 use crate::second::rules::Rules;
+use crate::second::slots::Listing;
 use std::fmt;
 
 pub mod ask_text;
 pub mod ask_words;
 pub mod check_request;
 pub mod decision_margin;
+pub mod edits;
 pub mod explain;
 pub mod find;
+pub mod live;
 pub mod next_eligible;
 pub mod prescribe;
 pub mod prescribe_checked;
@@ -48,6 +51,7 @@ pub struct Answer {
     pub refusal: Option<Refusal>,
     pub out: Vec<u8>,
     pub list: Vec<u8>,
+    pub policy: Vec<u8>,
     pub bank: Vec<u8>,
 }
 
@@ -86,7 +90,7 @@ impl fmt::Display for Answer {
             Some(refusal) => write!(f, "{refusal:?}")?,
             None => write!(f, "answered")?,
         }
-        let parts = [("out", &self.out), ("list", &self.list), ("bank", &self.bank)];
+        let parts = [("out", &self.out), ("list", &self.list), ("policy", &self.policy), ("bank", &self.bank)];
         let mut written = parts.iter().filter(|(_, bytes)| !bytes.is_empty());
         written.try_for_each(|(name, bytes)| write!(f, " {name} {}", hex(bytes)))
     }
@@ -111,6 +115,8 @@ pub enum Handed {
     Policy,
     Request,
     Bank,
+    /// A record that is offered.
+    Record,
     Id,
     /// The buffer for the answer.
     Out,
@@ -128,6 +134,8 @@ pub struct Call {
     pub name: &'static str,
     /// What the exported function takes, in its order.
     pub takes: &'static [Handed],
+    /// Which of a bank's records it is about.
+    pub listing: Listing,
     /// The fields of the form that it reads.
     pub tags: &'static [u8],
     /// Whether it may pass over the bank many times. The largest banks are then kept for a few cases.
@@ -145,10 +153,11 @@ pub struct Call {
     pub answer: fn(&Ask, &dyn Judge) -> Answer,
 }
 
-/// What most calls have: one pass, no buffer, no form.
+/// What most calls have: every record of a bank, one pass, no buffer, no form.
 const PLAIN: Call = Call {
     name: "",
     takes: &[],
+    listing: Listing::Every,
     tags: &[],
     many_passes: false,
     need: nothing,
@@ -178,8 +187,19 @@ pub const READ_REQUEST: usize = 15;
 pub const UNIT: usize = 16;
 pub const ASK: usize = 17;
 pub const WORDS: usize = 18;
+pub const LIVE_PRESCRIBE: usize = 19;
+pub const LIVE_CHECKED: usize = 20;
+pub const LIVE_EXPLAIN: usize = 21;
+pub const LIVE_FIND: usize = 22;
+pub const LIVE_UTILITY: usize = 23;
+pub const LIVE_WIN: usize = 24;
+pub const LIVE_MARGIN: usize = 25;
+pub const ADD: usize = 26;
+pub const REPLACE: usize = 27;
+pub const REMOVE: usize = 28;
+pub const COMPACT: usize = 29;
 
-pub const CALLS: [Call; 19] = [
+pub const CALLS: [Call; 30] = [
     prescribe::CALL,
     prescribe_checked::CALL,
     utility_for_model::CALL,
@@ -199,12 +219,23 @@ pub const CALLS: [Call; 19] = [
     unit_text::CALL,
     ask_text::CALL,
     ask_words::CALL,
+    live::PRESCRIBE,
+    live::CHECKED,
+    live::EXPLAIN,
+    live::FIND,
+    live::UTILITY,
+    live::WIN,
+    live::MARGIN,
+    edits::ADD,
+    edits::REPLACE,
+    edits::REMOVE,
+    edits::COMPACT,
 ];
 
 impl Call {
     /// The case as this call sees it.
     pub fn ask<'a>(&self, case: &'a Case) -> Ask<'a> {
-        let mut ask = case.ask(self.tags);
+        let mut ask = case.ask(self.listing, self.tags);
         ask.rules = (self.rules)(&ask);
         ask.room = case.room.bytes((self.need)(&ask));
         ask.list_room = case.list_room.bytes((self.list_need)(&ask));
@@ -263,8 +294,13 @@ impl Call {
 
 /// What is decided, for a question that passed.
 fn question(ask: &Ask) -> Question {
-    let (policy, request, models) = (policy_of(ask.policy), request_of(ask.request), models_of(ask.bank));
-    Question { policy: policy.by(ask.rules), request, models }
+    let (policy, request) = (policy_of(ask.policy), request_of(ask.request));
+    Question { policy: policy.by(ask.rules), request, records: ask.listing.records(ask.bank) }
+}
+
+/// 1, 2, and for a call about live records 34.
+fn bank(ask: &Ask) -> Passed {
+    refusals::listed(ask.listing, ask.bank)
 }
 
 /// Of the policy that is lent, or that the list which is read was explained by.

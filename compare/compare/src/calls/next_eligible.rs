@@ -1,5 +1,5 @@
 //! `next_eligible`: the place of the first eligible record of an explanation, from a place on.
-use super::{question, Answer, Call, Handed, PLAIN};
+use super::{bank, question, Answer, Call, Handed, PLAIN};
 use crate::case::{Ask, Listed};
 use crate::judges::Judge;
 use crate::second::deciding::{explain, Question};
@@ -27,15 +27,19 @@ fn answer(ask: &Ask, judge: &dyn Judge) -> Answer {
     }
 }
 
-/// What is explained, where that is the list and there is one: of a question that `explain` would refuse there is none.
+/// What is explained, where that is the list and there is one: of a question that would be refused there is none.
 fn explained(ask: &Ask) -> Option<Question> {
-    let sound = refusals::policy_and_request(ask.policy, ask.request).is_ok() && refusals::bank(ask.bank).is_ok();
-    (sound && *ask.listed == Listed::Explained).then(|| question(ask))
+    let Listed::Explained(listing) = *ask.listed else {
+        return None;
+    };
+    let ask = Ask { listing, ..ask.clone() };
+    let sound = refusals::policy_and_request(ask.policy, ask.request).is_ok() && bank(&ask).is_ok();
+    sound.then(|| question(&ask))
 }
 
 pub fn list_to_read(ask: &Ask) -> Vec<u8> {
     match ask.listed {
         Listed::Bytes(list) => list.clone(),
-        Listed::Explained => explained(ask).map_or(Vec::new(), |question| explanation_bytes(&explain(&question))),
+        Listed::Explained(_) => explained(ask).map_or(Vec::new(), |question| explanation_bytes(&explain(&question))),
     }
 }

@@ -1,5 +1,5 @@
 //! `prescribe`: the decision and its nine counts.
-use super::{question, Answer, Call, Handed, PLAIN};
+use super::{bank, question, Answer, Call, Handed, PLAIN};
 use crate::case::Ask;
 use crate::judges::Judge;
 use crate::second::bytes::{traced_bytes, TRACED_BYTES};
@@ -21,7 +21,7 @@ pub(super) fn need(_: &Ask) -> usize {
 /// 22 of either, 23, 1, 2, 4.
 pub(super) fn second(ask: &Ask) -> Passed {
     refusals::policy_and_request(ask.policy, ask.request)?;
-    refusals::bank(ask.bank)?;
+    bank(ask)?;
     refusals::room(ask.room, TRACED_BYTES)
 }
 

@@ -38,8 +38,7 @@ pub fn answer(ask: &Ask, judge: &dyn Judge, report: Report) -> Answer {
     let (by, told) = match input_of(&ask.form) {
         Err(refusal) => (By::Second, Err(refusal)),
         Ok(input) => {
-            let (policy, request, models) = (input.policy.by(ask.rules), input.request, models_of(input.bank));
-            let question = Question { policy, request, models };
+            let question = Question::over(input.policy.by(ask.rules), input.request, models_of(input.bank));
             (By::Printed, judged(judge, &question, ask.id, report))
         }
     };
@@ -50,7 +49,7 @@ pub fn answer(ask: &Ask, judge: &dyn Judge, report: Report) -> Answer {
 
 /// 10 to 15, then 3, then what the call itself says.
 fn judged(judge: &dyn Judge, question: &Question, id: u32, report: Report) -> Result<String, Refusal> {
-    judge.validation(&question.policy, &question.models)?;
+    judge.validation(&question.policy, &question.models())?;
     judge.request_limits(&question.request)?;
     report(judge, question, id)
 }

@@ -1,5 +1,5 @@
 //! `utility_for_model`: the utility of the first listed record with an id, if that record is eligible.
-use super::{question, Answer, Call, Handed, PLAIN};
+use super::{bank, question, Answer, Call, Handed, PLAIN};
 use crate::case::Ask;
 use crate::judges::Judge;
 use crate::second::bytes::UTILITY_BYTES;
@@ -21,7 +21,7 @@ fn need(_: &Ask) -> usize {
 /// 22, 23, 1, 2, 4; then 7, where there is no utility. There is no checked form, so 3 isn't given.
 fn second(ask: &Ask) -> Passed {
     refusals::policy_and_request(ask.policy, ask.request)?;
-    refusals::bank(ask.bank)?;
+    bank(ask)?;
     refusals::room(ask.room, UTILITY_BYTES)
 }
 

@@ -1,5 +1,5 @@
 //! `what_would_win`: for each lever of one model, where it would have to be for that model to be selected.
-use super::{question, Answer, Call, Handed, PLAIN};
+use super::{bank, question, Answer, Call, Handed, PLAIN};
 use crate::case::Ask;
 use crate::judges::Judge;
 use crate::second::boundaries::{boundaries_bytes, BOUNDARIES_BYTES};
@@ -22,7 +22,7 @@ pub(super) fn need(_: &Ask) -> usize {
 /// 22, 23, 1, 2, 4; then 5, where the id isn't listed.
 pub(super) fn second(ask: &Ask) -> Passed {
     refusals::policy_and_request(ask.policy, ask.request)?;
-    refusals::bank(ask.bank)?;
+    bank(ask)?;
     refusals::room(ask.room, BOUNDARIES_BYTES)
 }
 

@@ -28,7 +28,7 @@ pub fn change(r: &mut Random, setting: &mut Setting) {
 /// The terms of one record, had the budget no limit: none where a gate or the request's own limits stop it.
 fn terms(setting: &Setting, at: usize) -> Option<Terms> {
     let request = KernelInput { budget_limit_microunits: u64::MAX, ..setting.request };
-    let alone = Question { policy: setting.policy, request, models: vec![setting.models[at]] };
+    let alone = Question::over(setting.policy, request, vec![setting.models[at]]);
     match explain(&alone).first()?.verdict {
         Verdict::Eligible(terms) | Verdict::NonPositive(terms) => Some(terms),
         _ => None,

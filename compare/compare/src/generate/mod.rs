@@ -1,17 +1,19 @@
 //! The inputs: small spaces in full (`spaces`), then random ones, each a plausible setting (`base`) with a few fields moved to an
 //! edge of their range (`edges`) or to a limit that decides something (`aimed`). Explanations, catalogues, searches, forms, what is
 //! printed and the reading of a record have spaces and random cases of their own (`lists`, `catalogues`, `searches`, `forms`, `printed`,
-//! `places`). Policies that round once have spaces of their own too (`roundings`); and each random set is drawn twice, once with policies that all
-//! round apart and once with policies of both kinds.
+//! `places`), and so have banks with free slots (`live`) and what changes them (`edits`). Policies that round once have spaces of their own too
+//! (`roundings`); and each random set is drawn twice, once with policies that all round apart and once with policies of both kinds.
 pub mod aimed;
 pub mod base;
 pub mod catalogues;
 pub mod court;
 pub mod edges;
+pub mod edits;
 pub mod example;
 pub mod forms;
 pub mod large;
 pub mod lists;
+pub mod live;
 pub mod places;
 pub mod printed;
 pub mod random;
@@ -20,12 +22,14 @@ pub mod searches;
 pub mod spaces;
 
 use crate::calls::{
-    ASK, CALLS, CHECK, CHECKED, EXPLAIN, FIND, MARGIN, NEXT, PRESCRIBE, READ_REQUEST, READ_STORED, RECORD, TRUST,
+    ADD, ASK, CALLS, CHECK, CHECKED, COMPACT, EXPLAIN, FIND, LIVE_CHECKED, LIVE_EXPLAIN, LIVE_FIND, LIVE_MARGIN,
+    LIVE_PRESCRIBE, LIVE_UTILITY, LIVE_WIN, MARGIN, NEXT, PRESCRIBE, READ_REQUEST, READ_STORED, RECORD, REMOVE,
+    REPLACE, TRUST, UNIT, UTILITY, VALIDATE, WIN, WORDS, WRITE_REQUEST, WRITE_STORED,
 };
-use crate::calls::{UNIT, UTILITY, VALIDATE, WIN, WORDS, WRITE_REQUEST, WRITE_STORED};
 use crate::case::{Case, Formed, Listed, Room};
 use crate::second::bytes::{bank_bytes, policy_bytes, request_bytes, Policy, RECORD_BYTES};
 use crate::second::deciding::{explain, Question, Verdict};
+use crate::second::slots::Listing;
 use oracle::kernel::{KernelInput, KernelModel, PolicySnapshot};
 use random::Random;
 use std::fmt;
@@ -141,6 +145,41 @@ const CATALOGUES: Asked = Asked::These(&[VALIDATE, TRUST]);
 const SEARCHES: Asked = Asked::These(&[WIN, MARGIN]);
 const FORMS: Asked = Asked::These(&[WRITE_STORED, READ_STORED, WRITE_REQUEST, READ_REQUEST, UNIT, ASK, WORDS]);
 const PRINTED: Asked = Asked::These(&[UNIT, ASK, WORDS]);
+const EDITS: Asked = Asked::These(&[ADD, REPLACE, REMOVE, COMPACT]);
+/// The calls on live records, and those on every record of the same banks, where a free slot is a model that is off.
+const LIVE: Asked = Asked::These(&[
+    LIVE_PRESCRIBE,
+    LIVE_CHECKED,
+    LIVE_EXPLAIN,
+    LIVE_FIND,
+    LIVE_UTILITY,
+    LIVE_WIN,
+    LIVE_MARGIN,
+    NEXT,
+    PRESCRIBE,
+    CHECKED,
+    EXPLAIN,
+    FIND,
+    UTILITY,
+    WIN,
+    MARGIN,
+    VALIDATE,
+    TRUST,
+    WRITE_STORED,
+]);
+const LIVE_DECISIONS: Asked = Asked::These(&[
+    LIVE_PRESCRIBE,
+    LIVE_CHECKED,
+    LIVE_EXPLAIN,
+    LIVE_FIND,
+    LIVE_UTILITY,
+    NEXT,
+    PRESCRIBE,
+    UTILITY,
+    FIND,
+    EXPLAIN,
+]);
+const LIVE_SEARCHES: Asked = Asked::These(&[LIVE_WIN, LIVE_MARGIN]);
 
 const fn space(name: &'static str, asked: Asked, each: fn(Visit)) -> Space {
     Space { name, asked, long: false, each }
@@ -150,7 +189,7 @@ const fn long(name: &'static str, asked: Asked, each: fn(Visit)) -> Space {
     Space { name, asked, long: true, each }
 }
 
-pub const SPACES: [Space; 22] = [
+pub const SPACES: [Space; 27] = [
     space("decisions", Asked::Every, spaces::each),
     space("banks of every size", Asked::Every, large::each),
     space("lists", LISTS, lists::each),
@@ -166,6 +205,10 @@ pub const SPACES: [Space; 22] = [
     space("searches, rounding once", SEARCHES, roundings::searches),
     space("forms, rounding once", FORMS, forms::each_once),
     space("printed, rounding once", PRINTED, roundings::printed),
+    space("live banks", LIVE, live::each),
+    space("large live banks", LIVE_DECISIONS, live::largest),
+    space("edits", EDITS, edits::each),
+    space("edits of large banks", EDITS, edits::large),
     long("searches printed", PRINTED, searches::each),
     long("a falling catalogue", Asked::These(&[VALIDATE]), catalogues::falling),
     long("turned catalogues", Asked::These(&[TRUST]), catalogues::turned),
@@ -173,9 +216,10 @@ pub const SPACES: [Space; 22] = [
     long("decisions, rounding once", DECISIONS, roundings::decisions),
     long("banks of every size, rounding once", Asked::Every, roundings::large),
     long("forms of every size, rounding once", FORMS, forms::sizes_once),
+    long("searches over large live banks", LIVE_SEARCHES, live::largest_searches),
 ];
 
-pub const DRAWS: [Draws; 7] = [
+pub const DRAWS: [Draws; 10] = [
     Draws { name: "random decisions", asked: DECISIONS, share: 100, case: any_case },
     Draws { name: "random", asked: Asked::Every, share: 20, case: of_every_call },
     Draws { name: "random lists", asked: LISTS, share: 10, case: lists::random },
@@ -183,6 +227,9 @@ pub const DRAWS: [Draws; 7] = [
     Draws { name: "random searches", asked: SEARCHES, share: 15, case: searches::random },
     Draws { name: "random forms", asked: FORMS, share: 20, case: forms::random },
     Draws { name: "random printed", asked: PRINTED, share: 15, case: printed::random },
+    Draws { name: "random live banks", asked: LIVE, share: 20, case: live::random },
+    Draws { name: "random edits", asked: EDITS, share: 50, case: edits::random },
+    Draws { name: "random edited banks", asked: LIVE, share: 10, case: edits::standing },
 ];
 
 /// Where every call is asked, those of many passes are asked up to the unit's 900 records; sets of their own have larger banks.
@@ -212,7 +259,7 @@ impl Setting {
     }
 
     pub fn question(&self) -> Question {
-        Question { policy: self.policy, request: self.request, models: self.models.clone() }
+        Question::over(self.policy, self.request, self.models.clone())
     }
 
     /// The setting's bytes, with a buffer that just fits.
@@ -221,10 +268,11 @@ impl Setting {
             policy: policy_bytes(&self.policy),
             request: request_bytes(&self.request),
             bank: bank_bytes(&self.models),
+            record: self.models.first().map_or(Vec::new(), |model| bank_bytes(&[*model])),
             id,
             room: Room::Exact,
             list_room: Room::Exact,
-            listed: Listed::Explained,
+            listed: Listed::Explained(Listing::Every),
             place: 0,
             formed: Formed::Made(Vec::new()),
         }

@@ -50,7 +50,12 @@ impl Policy {
 }
 
 fn snapshot(question: &Question) -> PolicySnapshot {
-    question.policy.with(question.models.clone())
+    question.policy.with(question.models())
+}
+
+/// The Rust's place is that in the list of records it was given: the record there tells its own. A rejection has no record and keeps its place.
+fn place(question: &Question, index: u16) -> u16 {
+    question.records.get(usize::from(index)).map_or(index, |(place, _)| *place)
 }
 
 impl Judge for TheRust<'_> {
@@ -80,7 +85,7 @@ impl Judge for TheRust<'_> {
         let (told, trace) = snapshot.prescribe_with_trace(request);
         assert_eq!(snapshot.prescribe(request), told, "the Rust's plain decision is the traced one");
         assert_eq!(snapshot.prescribe_batch(&[request]), [told], "and so is that of a row");
-        (decision(&told), counts(&trace.rejections))
+        (decision(question, &told), counts(&trace.rejections))
     }
 
     fn checked_decision(&self, question: &Question) -> Result<(Decision, Counts), Refusal> {
@@ -91,12 +96,12 @@ impl Judge for TheRust<'_> {
         let row = plain.map(|decision| vec![decision]);
         assert_eq!(snapshot.prescribe_batch_checked(&[request]), row, "and so is that of a row");
         let told = traced.map_err(|error| input_error(&error));
-        told.map(|(told, trace)| (decision(&told), counts(&trace.rejections)))
+        told.map(|(told, trace)| (decision(question, &told), counts(&trace.rejections)))
     }
 
     fn explanation(&self, question: &Question) -> (Decision, Vec<Explained>) {
         let told = snapshot(question).explain(question.request);
-        (decision(&told.decision), told.candidates.iter().map(explained).collect())
+        (decision(question, &told.decision), told.candidates.iter().map(|it| explained(question, it)).collect())
     }
 
     fn next_eligible(&self, question: &Question, from: u64) -> u64 {
@@ -113,7 +118,7 @@ impl Judge for TheRust<'_> {
         let told = counterfactual::what_would_win(&snapshot(question), question.request, id)?;
         Some(Boundaries {
             model_id: told.model_id,
-            decision: decision(&told.decision),
+            decision: decision(question, &told.decision),
             stopped: told.blocked_by_request.is_some(),
             levers: told.levers.iter().map(boundary).collect(),
             passes: self.passes.get(),
@@ -125,7 +130,7 @@ impl Judge for TheRust<'_> {
         let told = counterfactual::decision_margin(&snapshot(question), question.request)?;
         Some(Boundaries {
             model_id: told.model_id,
-            decision: decision(&told.decision),
+            decision: decision(question, &told.decision),
             stopped: false,
             levers: told.levers.iter().map(boundary).collect(),
             passes: self.passes.get(),
@@ -133,13 +138,13 @@ impl Judge for TheRust<'_> {
     }
 }
 
-fn decision(told: &KernelDecision) -> Decision {
+fn decision(question: &Question, told: &KernelDecision) -> Decision {
     Decision {
         sequence: told.request_sequence,
         action: told.action as u8,
         reason: told.reason as u16,
         model_id: told.selected_model_id,
-        place: told.selected_model_index,
+        place: place(question, told.selected_model_index),
         cost: told.estimated_cost_microunits,
         utility: told.expected_utility_microunits,
         other_id: told.counterfactual_model_id,
@@ -155,8 +160,9 @@ fn counts(c: &RejectionHistogram) -> Counts {
     [c.disabled, c.quality, c.risk_ceiling, c.latency, c.capability, c.provider, c.region, c.budget, c.utility]
 }
 
-fn explained(candidate: &CandidateExplanation) -> Explained {
-    Explained { id: candidate.model_id, place: candidate.model_index, verdict: verdict(&candidate.verdict) }
+fn explained(question: &Question, candidate: &CandidateExplanation) -> Explained {
+    let (id, place) = (candidate.model_id, place(question, candidate.model_index));
+    Explained { id, place, verdict: verdict(&candidate.verdict) }
 }
 
 fn verdict(told: &CandidateVerdict) -> Verdict {

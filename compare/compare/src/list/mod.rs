@@ -6,24 +6,25 @@
 //! | Bytes | What |
 //! |---|---|
 //! | 1 | who says what is owed: 1 the Rust, 2 the second reading alone, 3 both: the Rust decides, the second reading prints it |
-//! | 1 | the call: 1 to 19, in the order of `CALLS` |
+//! | 1 | the call: 1 to 30, in the order of `CALLS` |
 //! | 8 | the id or the place that it takes, else 0 |
 //! | 2 each | five lengths: of the policy, the request, the bytes, the space and the buffer; 0 for what the call doesn't take |
-//! | as they say | the policy; the request; the bytes, which are the bank, the list or the form that is read |
+//! | as they say | the policy; the request, or the record that is offered; the bytes, which are the bank, the list or the form that is read |
 //! | 8 | the word that is owed: the refusal's, or 0 |
-//! | as they say | the space after the call: the list or the bank that is filled, or the bank that is ordered; the buffer after the call |
+//! | as they say | after the call: the policy; the space, which is the list or the bank that is filled, or the bank that is changed; the buffer |
 //!
-//! Every byte of the space and of the buffer is `FILL` before the call, but for a bank that is ordered: it is a copy of the bytes.
+//! Every byte of the space and of the buffer is `FILL` before the call, but for a bank that is changed in its place, by 9 and 27 to 30: it is a copy.
 mod catalogues;
 mod decisions;
 mod forms;
 mod lists;
+mod live;
 mod printed;
 mod roundings;
 mod searches;
 
 use crate::calls::next_eligible::list_to_read;
-use crate::calls::{Answer, By, Handed, CALLS, TRUST};
+use crate::calls::{Answer, By, Handed, ADD, CALLS, COMPACT, TRUST};
 use crate::case::{Ask, Case, Room};
 use crate::generate::{Draw, Policies};
 use crate::second::bytes::{POLICY_BYTES, RECORD_BYTES, REQUEST_BYTES};
@@ -46,6 +47,7 @@ pub fn entries() -> Vec<Entry> {
     forms::entries(&mut list);
     printed::entries(&mut list);
     roundings::entries(&mut list);
+    live::entries(&mut list);
     list
 }
 
@@ -57,7 +59,7 @@ fn add(list: &mut Vec<Entry>, call: usize, case: Case) {
 const MOST_BANK: usize = 8 * RECORD_BYTES + 1;
 pub const MOST_ROOM: usize = 1_024;
 /// The bytes of the longest list that it reads.
-pub const MOST_BYTES: usize = 409_600;
+pub const MOST_BYTES: usize = 589_824;
 
 /// What fills a space and a buffer before the call.
 const FILL: u8 = 165;
@@ -89,17 +91,21 @@ impl Entry {
         let ask = CALLS[self.call].ask(&self.case);
         let owed = CALLS[self.call].owed(&ask);
         let bytes = self.bytes(&ask);
-        let mut space = if self.call == TRUST { bytes.clone() } else { self.lent(Handed::List, ask.list_room) };
-        let mut buffer = self.lent(Handed::Out, ask.room);
-        put_over(&mut space, if self.call == TRUST { &owed.bank } else { &owed.list });
-        put_over(&mut buffer, &owed.out);
+        let space = match self.call {
+            TRUST | ADD..=COMPACT => after(bytes.clone(), &owed.bank),
+            _ => after(self.lent(Handed::List, ask.list_room), &owed.list),
+        };
+        let buffer = after(self.lent(Handed::Out, ask.room), &owed.out);
+        let offered = self.part(Handed::Record, ask.record);
         let (policy, request) = (self.part(Handed::Policy, ask.policy), self.part(Handed::Request, ask.request));
+        let request = if request.is_empty() { offered } else { request };
         out.extend([who(owed.by), self.call as u8 + 1]);
         out.extend(self.number().to_le_bytes());
         for part in [policy, request, &bytes, &space, &buffer] {
             out.extend(u16::try_from(part.len()).expect("two bytes say its length").to_le_bytes());
         }
-        for part in [policy, request, &bytes, &owed.word().to_le_bytes(), &space, &buffer] {
+        let changed = after(policy.to_vec(), &owed.policy);
+        for part in [policy, request, &bytes, &owed.word().to_le_bytes(), &changed, &space, &buffer] {
             out.extend(part);
         }
     }
@@ -146,9 +152,10 @@ fn who(by: By) -> u8 {
     }
 }
 
-/// These bytes written to the start.
-fn put_over(lent: &mut [u8], bytes: &[u8]) {
+/// What is lent, with these bytes written to its start.
+fn after(mut lent: Vec<u8>, bytes: &[u8]) -> Vec<u8> {
     lent[..bytes.len()].copy_from_slice(bytes);
+    lent
 }
 
 #[cfg(test)]
@@ -242,12 +249,13 @@ mod tests {
     #[test]
     fn the_list_has_every_call_and_every_teller() {
         let bytes = written();
-        let (mut at, mut calls, mut tellers) = (0, [0; 20], [0; 4]);
+        let (mut at, mut calls, mut tellers) = (0, [0; CALLS.len() + 1], [0; 4]);
         while at < bytes.len() {
             tellers[usize::from(bytes[at])] += 1;
             calls[usize::from(bytes[at + 1])] += 1;
             let lengths = bytes[at + 10..at + 20].chunks(2).map(|two| usize::from(two[0]) + 256 * usize::from(two[1]));
-            at += 28 + lengths.sum::<usize>();
+            let policy = lengths.clone().next().expect("the first of five");
+            at += 28 + policy + lengths.sum::<usize>();
         }
         assert_eq!(at, bytes.len());
         assert!(tellers[0] == 0 && tellers[1..].iter().all(|times| *times > 80), "{tellers:?}");

@@ -150,7 +150,8 @@ pub fn request_bytes(q: &KernelInput) -> Vec<u8> {
     .concat()
 }
 
-fn model_of(bytes: &[u8]) -> KernelModel {
+pub fn model_of(bytes: &[u8]) -> KernelModel {
+    assert_eq!(bytes.len(), RECORD_BYTES);
     let mut f = Fields(bytes);
     KernelModel {
         model_id: f.u32(),
@@ -182,12 +183,6 @@ fn put_model(out: &mut Vec<u8>, m: &KernelModel) {
 pub fn models_of(bank: &[u8]) -> Vec<KernelModel> {
     assert_eq!(bank.len() % RECORD_BYTES, 0);
     bank.chunks_exact(RECORD_BYTES).map(model_of).collect()
-}
-
-/// The place of the first listed record with an id, or `NOWHERE`.
-pub fn first_listed(bank: &[u8], id: u32) -> u16 {
-    let place = bank.chunks_exact(RECORD_BYTES).position(|record| record[..4] == id.to_le_bytes());
-    place.map_or(NOWHERE, |at| u16::try_from(at).expect("at most 65,535 records"))
 }
 
 /// Where the record at a place begins.

@@ -1,17 +1,47 @@
-//! Document 01's "Deciding": what stops a request, the verdict on each record, the counts, the ranking and the decision. It is written from
-//! the document in whole numbers, the plain way, and asks nothing of the Rust but the records' types.
+//! Document 01's "Deciding": what stops a request, the verdict on each record, the counts, the ranking and the decision, over any list of records
+//! with their places. It is written from the document in whole numbers, the plain way, and asks nothing of the Rust but the records' types.
 use super::bytes::Policy;
 use super::gates::{first_failed, Failed};
 use super::price::{cost, terms, Terms};
 use oracle::kernel::{KernelInput, KernelModel};
 use std::cmp::Reverse;
 
+/// A record that a catalogue lists, and the place by which it is told.
+pub type Placed = (u16, KernelModel);
+
 /// A request over a catalogue under a policy, which says by what rules.
 #[derive(Clone, Debug)]
 pub struct Question {
     pub policy: Policy,
     pub request: KernelInput,
-    pub models: Vec<KernelModel>,
+    /// In the order of their places.
+    pub records: Vec<Placed>,
+}
+
+impl Question {
+    /// Over a list of nothing but these, each at its place in it.
+    pub fn over(policy: Policy, request: KernelInput, models: Vec<KernelModel>) -> Self {
+        Question { policy, request, records: in_order(models) }
+    }
+
+    /// The records without their places.
+    pub fn models(&self) -> Vec<KernelModel> {
+        self.records.iter().map(|(_, model)| *model).collect()
+    }
+
+    /// The first listed record with an id.
+    pub fn listed(&self, id: u32) -> Option<KernelModel> {
+        self.records.iter().find(|(_, model)| model.model_id == id).map(|(_, model)| *model)
+    }
+}
+
+/// Each at its place in the list.
+pub fn in_order(models: Vec<KernelModel>) -> Vec<Placed> {
+    models.into_iter().enumerate().map(|(place, model)| (place_of(place), model)).collect()
+}
+
+fn place_of(place: usize) -> u16 {
+    place.try_into().expect("at most 65,535 records")
 }
 
 /// The fields in their order; action and reason by their numbers.
@@ -92,9 +122,9 @@ pub fn decide(q: &Question) -> (Decision, Counts) {
         return (Decision { evaluated: 0, ..rejection(q, reason) }, counts);
     }
     let mut eligible = Vec::new();
-    for (place, model) in q.models.iter().enumerate() {
+    for (place, model) in &q.records {
         match verdict(q, model) {
-            Verdict::Eligible(terms) => eligible.push(ranked(&terms, model, place)),
+            Verdict::Eligible(terms) => eligible.push(ranked(&terms, model, *place)),
             other => counts[counted_at(&other)] += 1,
         }
     }
@@ -144,12 +174,8 @@ fn counted_at(verdict: &Verdict) -> usize {
 }
 
 /// Higher utility, lower cost, higher quality, lower id, earlier place.
-fn ranked(terms: &Terms, model: &KernelModel, place: usize) -> Ranked {
-    (Reverse(terms.utility), terms.cost, Reverse(model.quality_bps), model.model_id, place_of(place))
-}
-
-fn place_of(place: usize) -> u16 {
-    place.try_into().expect("at most 65,535 records")
+fn ranked(terms: &Terms, model: &KernelModel, place: u16) -> Ranked {
+    (Reverse(terms.utility), terms.cost, Reverse(model.quality_bps), model.model_id, place)
 }
 
 fn decided(q: &Question, eligible: &[Ranked], counts: &Counts) -> Decision {
@@ -182,7 +208,7 @@ fn rejection(q: &Question, reason: u16) -> Decision {
         utility: 0,
         other_id: 0,
         other_utility: 0,
-        evaluated: q.models.len() as u16,
+        evaluated: q.records.len() as u16,
         eligible: 0,
         policy_epoch: q.policy.policy_epoch,
         catalog_epoch: q.policy.catalog_epoch,
@@ -194,23 +220,19 @@ pub fn is_stopped(q: &Question) -> bool {
     stopping(q).is_some()
 }
 
-/// Every record in the bank's order; none of a stopped request.
+/// Every listed record in its order; none of a stopped request.
 pub fn explain(q: &Question) -> Vec<Explained> {
     if is_stopped(q) {
         return Vec::new();
     }
-    let explained = |(place, model): (usize, &KernelModel)| Explained {
-        id: model.model_id,
-        place: place_of(place),
-        verdict: verdict(q, model),
-    };
-    q.models.iter().enumerate().map(explained).collect()
+    let explained =
+        |(place, model): &Placed| Explained { id: model.model_id, place: *place, verdict: verdict(q, model) };
+    q.records.iter().map(explained).collect()
 }
 
 /// Of the first listed record with the id, where that is eligible and the request isn't stopped.
 pub fn utility_of(q: &Question, id: u32) -> Option<i64> {
-    let model = q.models.iter().find(|model| model.model_id == id)?;
-    match verdict(q, model) {
+    match verdict(q, &q.listed(id)?) {
         Verdict::Eligible(terms) if !is_stopped(q) => Some(terms.utility),
         _ => None,
     }

@@ -1,5 +1,6 @@
 //! Document 01's refusal numbers, the tests behind them, and the word in which the library hands one back.
 use super::bytes::{rounding_of, LONG_POLICY_BYTES, POLICY_BYTES, RECORD_BYTES, REQUEST_BYTES};
+use super::slots::{is_spoilt, Listing};
 use oracle::kernel::KernelInput;
 
 pub const BANK_LENGTH: u8 = 1;
@@ -12,6 +13,7 @@ pub const NO_UTILITY: u8 = 7;
 pub const BEYOND: u8 = 8;
 pub const FIELD_LENGTH: u8 = 22;
 pub const ROUNDING: u8 = 23;
+pub const SLOT_NOT_CLEAR: u8 = 34;
 
 pub const MOST_RECORDS: usize = 65_535;
 /// Of a risk, a confidence, a quality and a ceiling.
@@ -55,6 +57,11 @@ pub fn request_length(request: &[u8]) -> Passed {
     unless(request.len() != REQUEST_BYTES, FIELD_LENGTH)
 }
 
+/// 22, for a record that is offered in other than 47 bytes.
+pub fn record_length(record: &[u8]) -> Passed {
+    unless(record.len() != RECORD_BYTES, FIELD_LENGTH)
+}
+
 /// 22, for a policy that is neither 30 bytes nor 31.
 fn policy_length(policy: &[u8]) -> Passed {
     unless(![POLICY_BYTES, LONG_POLICY_BYTES].contains(&policy.len()), FIELD_LENGTH)
@@ -83,6 +90,13 @@ pub fn policy_and_request(policy: &[u8], request: &[u8]) -> Passed {
 pub fn bank(bank: &[u8]) -> Passed {
     unless(!bank.len().is_multiple_of(RECORD_BYTES), BANK_LENGTH)?;
     unless(bank.len() / RECORD_BYTES > MOST_RECORDS, TOO_MANY_RECORDS)
+}
+
+/// 1, 2, and where the live records are meant 34: a slot with id 0 and another byte set.
+pub fn listed(listing: Listing, lent: &[u8]) -> Passed {
+    bank(lent)?;
+    let spoilt = || lent.chunks_exact(RECORD_BYTES).any(is_spoilt);
+    unless(listing == Listing::Live && spoilt(), SLOT_NOT_CLEAR)
 }
 
 /// 4.

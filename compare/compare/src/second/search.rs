@@ -93,8 +93,8 @@ fn value_today(model: &KernelModel, lever: Lever) -> u64 {
 
 /// The first listed record with the id is the one that is varied.
 fn opened(question: &Question, id: u32) -> Option<Search> {
-    let at = question.models.iter().position(|model| model.model_id == id)?;
-    let (question, model) = (question.clone(), question.models[at]);
+    let at = question.records.iter().position(|(_, model)| model.model_id == id)?;
+    let (question, (_, model)) = (question.clone(), question.records[at]);
     Some(Search { question, at, model, passes: 0, levers: Vec::new() })
 }
 
@@ -107,7 +107,7 @@ impl Search {
     /// One pass, with this record in the varied one's place.
     fn decide(&mut self, varied: KernelModel) -> Decision {
         self.passes += 1;
-        self.question.models[self.at] = varied;
+        self.question.records[self.at].1 = varied;
         decide(&self.question).0
     }
 

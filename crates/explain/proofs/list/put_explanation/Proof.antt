@@ -1,7 +1,9 @@
 -- `explain::put_explanation` meets its contract. Assumes nothing.
 use Rattle.rules.proofs.Kit.{sym, ap, _∙_, List, arith, ℕ, now, length, needs}
-use Rattle.rules.specs.{Bytes.filled, Records.listedOf}
-use Rattle.explain.proofs.{Entries.length-bank, Stopped.stopped-explanation, Stopped.open-explanation, list.put_explanation.Statement.statement}
+use Rattle.rules.specs.Bytes.{filled}
+use Rattle.live_slots.specs.Among.{amongOf}
+use Rattle.live_slots.proofs.Among.{read-many}
+use Rattle.explain.proofs.{Stopped.stopped-explanation, Stopped.open-explanation, Stopped.length-judged, list.put_explanation.Statement.statement}
 use Rattle.explain.proofs.list.put_explanation.Tie as tie
 
 returns : tie.Need-returns
@@ -17,8 +19,9 @@ put-entries-requires c κs =
     let s = o .before .before in
     let start = s .before .before .before in
     let a = start .args in
-    let all = open-explanation _ _ (s .stopped-by .ensures) (listedOf (now (a .bank))) (o .enum-told2 .given .1) in
-    (start .pre .0, omega (arith, start .pre .1, ap length all ∙ length-bank (a .policy) (a .input) (now (a .bank))))
+    let read = amongOf (a .many) (now (a .bank)) in
+    let all = open-explanation _ _ (s .stopped-by .ensures) read (o .enum-told2 .given .1) in
+    (start .pre .0, omega (arith, start .pre .1, ap length all ∙ length-judged (a .policy) (a .input) read, read-many _ _ (start .pre .0)))
 
 returns-2 : tie.Need-returns-2
 returns-2 c =

@@ -1,8 +1,8 @@
 -- `export_checks::call_outcome` meets its contract. Assumes nothing.
 use Rattle.rules.proofs.Kit.{eq-eqb, ne-eqb, _∙_, sym, needs}
-use Rattle.rules.specs.Refused.{firstFault, toldOutcome}
+use Rattle.rules.specs.Refused.{sizeFaults, firstFault, toldOutcome}
 use Rattle.rules.proofs.Faults.{append-passed, append-refused}
-use Rattle.export_checks.specs.Checks.{sizeFaults, callFaults}
+use Rattle.export_checks.specs.Checks.{callFaults}
 use Rattle.export_checks.proofs.refuse.call_outcome.Statement.{statement}
 use Rattle.export_checks.proofs.refuse.call_outcome.Tie as tie
 

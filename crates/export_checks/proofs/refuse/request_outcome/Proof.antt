@@ -1,7 +1,6 @@
 -- `export_checks::request_outcome` meets its contract. Assumes nothing.
 use Rattle.rules.proofs.Kit.{eq-eqb, ne-eqb, _∙_, needs}
-use Rattle.rules.specs.Refused.{firstFault, toldOutcome}
-use Rattle.export_checks.specs.Checks.{sizeFaults}
+use Rattle.rules.specs.Refused.{sizeFaults, firstFault, toldOutcome}
 use Rattle.export_checks.proofs.refuse.request_outcome.Statement.{statement}
 use Rattle.export_checks.proofs.refuse.request_outcome.Tie as tie
 

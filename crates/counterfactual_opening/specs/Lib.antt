@@ -1,2 +1,0 @@
--- The best two that a decision is made from.
-pub mod Opening

@@ -1,0 +1,3 @@
+-- Laws on what an edit leaves.
+pub mod Epochs
+pub mod Leaving

@@ -1,0 +1,3 @@
+-- What the exported functions that edit a bank leave.
+pub mod Epoch
+pub mod Edits

@@ -1,0 +1,2 @@
+-- Laws on what opens an exported function that runs over live records.
+pub mod Openings

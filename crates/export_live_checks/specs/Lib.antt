@@ -1,0 +1,2 @@
+-- What opens an exported function that runs over live records, or edits them.
+pub mod LiveChecks

@@ -1,0 +1,2 @@
+-- What the exported functions that look up a live record leave.
+pub mod LiveLookups

@@ -1,0 +1,2 @@
+-- What a call permits.
+pub mod Answers

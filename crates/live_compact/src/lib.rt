@@ -1,0 +1,4 @@
+// The compaction of a bank whose models are swapped. It asks nothing of its caller.
+mod closing;
+
+pub use closing::compact;

@@ -1,0 +1,2 @@
+-- The slot that an edit writes.
+pub mod Placing

@@ -1,0 +1,2 @@
+-- Laws of the live call's answer.
+pub mod Answers

@@ -1,0 +1,2 @@
+-- How many of a bank's records are read.
+pub mod Among
