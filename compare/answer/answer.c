@@ -31,7 +31,8 @@ exported volankizo_prescribe, volankizo_prescribe_checked, volankizo_utility_for
     volankizo_record_at, volankizo_write_stored, volankizo_read_stored, volankizo_write_request, volankizo_read_request,
     volankizo_unit_text, volankizo_ask_text, volankizo_ask_words, volankizo_live_prescribe, volankizo_live_prescribe_checked,
     volankizo_live_explain, volankizo_live_find, volankizo_live_utility_for_model, volankizo_live_what_would_win,
-    volankizo_live_decision_margin, volankizo_live_add, volankizo_live_replace, volankizo_live_remove, volankizo_live_compact;
+    volankizo_live_decision_margin, volankizo_live_add, volankizo_live_replace, volankizo_live_remove, volankizo_live_compact,
+    volankizo_prescribe_batch, volankizo_prescribe_batch_checked;
 
 static const struct {
     const char *name;
@@ -67,6 +68,8 @@ static const struct {
     {"live_replace", volankizo_live_replace},
     {"live_remove", volankizo_live_remove},
     {"live_compact", volankizo_live_compact},
+    {"prescribe_batch", volankizo_prescribe_batch},
+    {"prescribe_batch_checked", volankizo_prescribe_batch_checked},
 };
 
 enum { SYS_READ = 0, SYS_WRITE = 1, SYS_MMAP = 9, SYS_MPROTECT = 10, SYS_EXIT = 60 };

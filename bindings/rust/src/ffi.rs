@@ -1,10 +1,11 @@
 //! The library's functions as they are: bytes in, a word back. 0 says that the call answered, anything else is a refusal, which
 //! [`Refusal::read`](crate::Refusal::read) reads. What each one takes, writes and refuses stands in `include/volankizo.h`.
 //!
-//! Everything unsafe of this crate is here and in [`live`], and one argument holds for all of it. For any bytes a function reads and writes
+//! Everything unsafe of this crate is here, in [`batch`] and in [`live`], and one argument holds for all of it. For any bytes a function reads and writes
 //! within the lengths that it is handed, and ends; that is proved of it. It keeps no address and has no state. What is left to its caller is that
 //! each address and length belong together, and that what is written overlaps nothing else that is lent. A Rust slice is such an
 //! address and length, also where it is empty (its address is then not null), and what is lent by `&mut` is lent once.
+pub mod batch;
 pub mod live;
 
 extern "C" {

@@ -39,7 +39,7 @@ pub const UNIT_TEXT_BYTES: usize = 848;
 /// The same for `ask ID`, in lines.
 pub const ASK_TEXT_BYTES: usize = 678;
 /// The same for `ask ID words`.
-pub const ASK_WORDS_BYTES: usize = 808;
+pub const ASK_WORDS_BYTES: usize = 1_208;
 
 /// A stored form with a bank of so many bytes and a policy that rounds apart, held at `usize::MAX`; with one that rounds once it has
 /// [`ROUNDING_FIELD_BYTES`] more.

@@ -52,6 +52,7 @@
 #![deny(unsafe_code)]
 
 mod bank;
+mod batch;
 mod boundary;
 mod calls;
 mod decision;
@@ -66,6 +67,7 @@ mod stored;
 mod verdict;
 
 pub use bank::{find, models, record_at, Bank};
+pub use batch::version;
 pub use boundary::{Counterfactual, Lever, Margin, Requirement, MAX_PRICE_SCALE_PPM, PPM};
 pub use calls::{check_request, decision_margin, next_eligible, what_would_win};
 pub use decision::{DecisionTrace, KernelAction, KernelDecision, KernelReason, RejectionHistogram};

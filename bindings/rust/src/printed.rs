@@ -1,5 +1,5 @@
 //! What the programs print, for an input of their kind: a stored form, of either rounding, with a request form after it.
-//! An input that they refuse is no refusal here: its text is the line `refused N`.
+//! An input that they refuse is no refusal here: its text begins with the line `refused N`, and in words a sentence follows.
 use crate::ffi;
 use crate::layout::{broken, Fields, ASK_TEXT_BYTES, ASK_WORDS_BYTES, UNIT_TEXT_BYTES};
 use crate::refusal::Refusal;
@@ -18,7 +18,8 @@ pub fn ask_text(input: &[u8], model_id: u32) -> Result<String, Refusal> {
     Ok(text(&out))
 }
 
-/// The same in words, as `ask ID words` prints it. Never refused.
+/// The same in words, as `ask ID words` prints it: who was chosen, why the model was not, and what would make it the choice; or what refuses
+/// the input. Never refused.
 pub fn ask_words(input: &[u8], model_id: u32) -> Result<String, Refusal> {
     let mut out = [0; ASK_WORDS_BYTES];
     Refusal::told(ffi::ask_words(input, model_id, &mut out))?;

@@ -10,7 +10,7 @@ pub enum Refusal {
     UnevenBank,
     /// 2: the bank has more than 65,535 records.
     CatalogTooLarge,
-    /// 3: the risk (field 1), confidence (2) or minimum quality (3) of a request is above 10,000.
+    /// 3: the risk (field 1), confidence (2) or minimum quality (3) of a request is above 10,000; of a batch, at this place.
     InputOutOfRange { field: u8, value: u16, place: u32 },
     /// 4: a list or buffer is too short for the answer.
     NoRoom,
@@ -44,7 +44,7 @@ pub enum Refusal {
     CutShort,
     /// 21: a field or a byte that isn't due, or one that is due and missing.
     WrongTag,
-    /// 22: a length that the field, the policy, the request or the offered record doesn't have.
+    /// 22: a length that the field, the policy, the request or the offered record doesn't have; of a batch, 2^32 requests or more.
     WrongLength,
     /// 23: a policy that rounds neither apart (0) nor once (1); in a form, a field of tag 4 whose body isn't 1.
     UnknownRounding,

@@ -303,7 +303,7 @@ fn a_text_that_has_no_room_is_not_written() {
             ffi::ask_words(&form, 1, out)
         }];
         for call in calls {
-            let mut whole = vec![UNTOUCHED; UNIT_TEXT_BYTES];
+            let mut whole = vec![UNTOUCHED; ASK_WORDS_BYTES];
             assert_eq!(call(&mut whole), 0);
             let need = 8 + u64::from_le_bytes(*whole.first_chunk().unwrap()) as usize;
             assert!(whole[need..].iter().all(|byte| *byte == UNTOUCHED));

@@ -15,13 +15,25 @@ lever 3 1000000 4330000 1299
 lever 4 8000 1000 -
 ";
 
-const WORDS: &str = "Price: 100 percent today; it must fall by at least 55.6667 percent, to 44.3333 percent; \
-the request then costs 798 microunits.\n";
+const CHOSEN: &str = "Chosen: model 2, at a cost of 300 microunits, with a utility of 6200 microunits.\n";
+
+const WORDS: &str = "\
+Model 1 is outranked by model 2: its utility of 5200 microunits is below 6200.
+Price alone: it must fall by 55.7 percent or more; exactly, by 55.6667 percent, to 44.3333 percent of today's, \
+where the request costs 798 microunits.
+";
+
+const ALREADY: &str = "\
+Model 2 is chosen already.
+Price alone: not searched, since the model is chosen already.
+";
 
 const THREE: &str = "\
-Quality: 9000 basis points today; it must rise to at least 9101.
-Latency: 100 ms today; it must fall to at most 89 ms.
-Price: 100 percent today; it must fall by at least 11.3334 percent, to 88.6666 percent; the request then costs 798 microunits.
+Model 1 is outranked by model 2: its utility of 6100 microunits is below 6200.
+Price alone: it must fall by 11.4 percent or more; exactly, by 11.3334 percent, to 88.6666 percent of today's, \
+where the request costs 798 microunits.
+Quality alone: 9000 basis points today; it must rise to at least 9101.
+Latency alone: 100 ms today; it must fall to at most 89 ms.
 ";
 
 /// The same with tag 4, as `examples/inputs` has it, and what is printed for it.
@@ -82,9 +94,10 @@ fn the_example_rounding_once() {
     assert_eq!(unit_text(&input).unwrap(), ONCE_LINES);
     let lines = "decision 42 2 2 2 1 300 6200 1 5200 2 2 7 3\nlever 3 1000000 443888 799\npasses 26\n";
     assert_eq!(ask_text(&input, 1).unwrap(), lines);
-    let words = "Price: 100 percent today; it must fall by at least 55.6112 percent, to 44.3888 percent; \
-                 the request then costs 799 microunits.\n";
-    assert_eq!(ask_words(&input, 1).unwrap(), words);
+    let words = ask_words(&input, 1).unwrap();
+    let price = "Price alone: it must fall by 55.7 percent or more; exactly, by 55.6112 percent, to 44.3888 percent of today's, \
+                 where the request costs 799 microunits.";
+    assert_eq!(words.lines().last(), Some(price));
 }
 
 #[test]
@@ -105,10 +118,10 @@ fn a_rejection_has_two_lines() {
 fn the_desks_question() {
     let text = ask_text(UNIT_INPUT, 1).unwrap();
     assert_eq!(text, "decision 42 2 2 2 1 300 6200 1 5200 2 2 7 3\nlever 3 1000000 443333 798\npasses 26\n");
-    assert_eq!(ask_words(UNIT_INPUT, 1).unwrap(), WORDS);
-    assert_eq!(ask_words(UNIT_INPUT, 2).unwrap(), "Model 2 is chosen already.\n");
+    assert_eq!(ask_words(UNIT_INPUT, 1).unwrap(), [CHOSEN, WORDS].concat());
+    assert_eq!(ask_words(UNIT_INPUT, 2).unwrap(), [CHOSEN, ALREADY].concat());
     assert_eq!(ask_text(UNIT_INPUT, 3).unwrap(), "refused 5\n");
-    assert_eq!(ask_words(UNIT_INPUT, 3).unwrap(), "refused 5\n");
+    assert_eq!(ask_words(UNIT_INPUT, 3).unwrap(), "refused 5\nModel 3 is not listed.\n");
 }
 
 #[test]
@@ -116,7 +129,7 @@ fn a_sentence_for_each_lever() {
     let first = KernelModel { output_cost_microunits_per_million_tokens: 6_000_000, ..FIRST };
     let mut input = write_stored(&POLICY, &Bank::from_models(&[first, SECOND])).unwrap();
     input.extend(write_request(REQUEST).unwrap());
-    assert_eq!(ask_words(&input, 1).unwrap(), THREE);
+    assert_eq!(ask_words(&input, 1).unwrap(), [CHOSEN, THREE].concat());
 }
 
 #[test]

@@ -1,10 +1,12 @@
 //! That this crate and `include/volankizo.h` speak of the same functions, argument by argument, and of the same sizes.
+//! That the header's numbers are the library's is `contract`'s to show.
 use std::collections::BTreeMap;
 use volankizo::layout::*;
 use volankizo::{Rounding, MAX_STORED_MODELS};
 
 const HEADER: &str = include_str!("../../../include/volankizo.h");
-const DECLARED: &str = concat!(include_str!("../src/ffi.rs"), include_str!("../src/ffi/live.rs"));
+const DECLARED: &str =
+    concat!(include_str!("../src/ffi.rs"), include_str!("../src/ffi/batch.rs"), include_str!("../src/ffi/live.rs"));
 
 /// An argument: its name, and its type in Rust's words.
 type Argument = (&'static str, &'static str);
@@ -18,7 +20,8 @@ fn functions(
     let declared = |rest: &'static str| {
         let (name, rest) = rest.split_once('(')?;
         let named = name.bytes().all(|byte| byte.is_ascii_lowercase() || byte == b'_');
-        let arguments = rest.split_once(')')?.0.split(',').map(str::trim).filter(|argument| !argument.is_empty());
+        let arguments = rest.split_once(')')?.0.split(',').map(str::trim);
+        let arguments = arguments.filter(|argument| !["", "void"].contains(argument));
         named.then(|| (name, arguments.map(read).collect()))
     };
     text.split(before).skip(1).filter_map(declared).collect()
@@ -30,7 +33,8 @@ fn in_c(argument: &'static str) -> Argument {
     let rust = match argument[..at].trim() {
         "const uint8_t *" => "*const u8",
         "uint8_t *" => "*mut u8",
-        "size_t" => "usize",
+        // a length has 64 bits on every processor; the crate is for one whose usize has as many
+        "uint64_t" if argument.ends_with("_len") => "usize",
         "uint32_t" => "u32",
         "uint64_t" => "u64",
         other => panic!("{other}: a type that no function of the header has"),
@@ -46,7 +50,7 @@ fn in_rust(argument: &'static str) -> Argument {
 fn the_same_functions() {
     let ours = functions(DECLARED, "fn volankizo_", in_rust);
     assert_eq!(ours, functions(HEADER, "uint64_t volankizo_", in_c));
-    assert_eq!(ours.len(), 30);
+    assert_eq!(ours.len(), 33);
 }
 
 /// The names that the header gives a number, with the numbers.
@@ -85,7 +89,10 @@ fn the_same_sizes() {
         ("ROUNDS_APART", Rounding::Apart.number().into()),
         ("ROUNDS_ONCE", Rounding::Once.number().into()),
     ];
-    assert_eq!(BTreeMap::from(ours), numbers());
+    let numbers = numbers();
+    for (name, size) in ours {
+        assert_eq!(numbers.get(name), Some(&size), "VOLANKIZO_{name}");
+    }
     assert_eq!((stored_form_bytes(0), stored_form_bytes(94)), (36, 130));
     assert_eq!((stored_form_bytes(usize::MAX - 36), stored_form_bytes(usize::MAX)), (usize::MAX, usize::MAX));
 }

@@ -1,47 +1,11 @@
 //! That every field of an answer is read from its own place: values that all differ, and all the verdicts.
 mod common;
-use common::{example_bank, slots, Source, FIRST, POLICY, REQUEST};
+use common::{example_bank, failing, slots, Source, FIRST, POLICY, REQUEST, SOUND, STRICT};
 use volankizo::layout::{BOUNDARY_BYTES, EXPLANATION_BYTES};
 use volankizo::{
     ffi, live, next_eligible, Bank, CandidateExplanation, CandidateVerdict, GateKind, KernelDecision, KernelInput,
     KernelModel, KernelReason, PolicySnapshot, RejectionHistogram, Rounding,
 };
-
-/// Every gate can be failed alone.
-const STRICT: KernelInput = KernelInput {
-    risk_bps: 4_000,
-    max_p95_latency_ms: 200,
-    required_capabilities: 3,
-    allowed_provider_mask: 0b1001,
-    required_region_mask: 4,
-    ..REQUEST
-};
-
-/// A model that passes `STRICT`.
-const SOUND: KernelModel = KernelModel {
-    provider_id: 3,
-    quality_bps: 10_000,
-    risk_ceiling_bps: 5_000,
-    p95_latency_ms: 150,
-    region_mask: 6,
-    ..FIRST
-};
-
-/// A model for each way of falling out, by the order of the counts; the sixth has two ways.
-fn failing() -> [KernelModel; 10] {
-    [
-        KernelModel { enabled: 0, ..SOUND },
-        KernelModel { quality_bps: 4_999, ..SOUND },
-        KernelModel { risk_ceiling_bps: 3_999, ..SOUND },
-        KernelModel { p95_latency_ms: 201, ..SOUND },
-        KernelModel { capabilities: 5, ..SOUND },
-        KernelModel { provider_id: 2, ..SOUND },
-        KernelModel { region_mask: 3, ..SOUND },
-        KernelModel { output_cost_microunits_per_million_tokens: 48_000_000, ..SOUND },
-        KernelModel { output_cost_microunits_per_million_tokens: 45_000_000, ..SOUND },
-        KernelModel { provider_id: 64, ..SOUND },
-    ]
-}
 
 #[test]
 fn nine_different_counts() {

@@ -253,20 +253,24 @@ fn numbers_20_to_23_of_the_field_that_says_how_to_round() {
 #[test]
 fn the_programs_refuse_that_field_before_anything_else() {
     let request = &UNIT_INPUT[130..];
-    let faults: [(&[u8], &[u8], &str); 8] = [
-        (&[4, 1, 0, 0], request, "refused 23\n"),
-        (&[4, 0, 0], request, "refused 22\n"),
-        (&[4], &[], "refused 20\n"),
-        (&[9], &[], "refused 20\n"),
-        (&[4, 1, 0], &[], "refused 20\n"),
-        (&[4, 1, 0, 1], &[], "refused 21\n"),
-        (&[4, 1, 0, 0], &[], "refused 23\n"),
-        (request, &[4, 1, 0, 1], "refused 21\n"),
+    let cut = ("refused 20\n", "The input ends within a field.\n");
+    let order = ("refused 21\n", "A field of the input is missing, out of its order, or one too many.\n");
+    let length = ("refused 22\n", "A field of the input has a length that its tag does not have.\n");
+    let rounding = ("refused 23\n", "The input's rounding, under tag 4, is not 1.\n");
+    let faults: [(&[u8], &[u8], (&str, &str)); 8] = [
+        (&[4, 1, 0, 0], request, rounding),
+        (&[4, 0, 0], request, length),
+        (&[4], &[], cut),
+        (&[9], &[], cut),
+        (&[4, 1, 0], &[], cut),
+        (&[4, 1, 0, 1], &[], order),
+        (&[4, 1, 0, 0], &[], rounding),
+        (request, &[4, 1, 0, 1], order),
     ];
-    for (bytes, then, text) in faults {
+    for (bytes, then, (line, sentence)) in faults {
         let input = after_the_bank(&[bytes, then].concat());
         let said = [unit_text(&input), ask_text(&input, 1), ask_words(&input, 1)].map(Result::unwrap);
-        assert_eq!(said, [text; 3], "{bytes:?}");
+        assert_eq!(said, [line, line, &[line, sentence].concat()], "{bytes:?}");
     }
 }
 

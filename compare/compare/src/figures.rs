@@ -214,7 +214,7 @@ fn kind_of_line(line: &str) -> String {
         "lever" | "refused" => format!("prints {} {}", words[0], words[1]),
         "decision" | "rejected" | "passes" => format!("prints {}", words[0]),
         _ => {
-            let plain: String = line.chars().filter(|c| !c.is_ascii_digit()).take(28).collect();
+            let plain: String = line.chars().filter(|c| !c.is_ascii_digit()).take(60).collect();
             format!("says {plain}")
         }
     }

@@ -1,6 +1,7 @@
 //! The library, asked through the program that calls it (`answer/answer.c`): the archive is for x86-64 alone, and a fault in it must
 //! not end the comparison.
 use crate::calls::next_eligible::list_to_read;
+use crate::calls::prescribe_batch::{count, row};
 use crate::calls::{Call, Handed};
 use crate::case::Ask;
 use std::io::{self, BufReader, Read, Write};
@@ -17,11 +18,12 @@ const GUARD: usize = 24;
 
 /// The order in which things stand in memory, as far as a call takes them: what may be written first, then what is read, so that a step
 /// past the end of a bank, a list or a form that is read is a fault.
-const ORDER: [Handed; 8] = [
+const ORDER: [Handed; 9] = [
     Handed::Out,
     Handed::List,
     Handed::Policy,
     Handed::Request,
+    Handed::Requests,
     Handed::Bank,
     Handed::Listed,
     Handed::Form,
@@ -46,11 +48,12 @@ impl Memory {
                 Handed::List => memory.fill(ask.list_room),
                 Handed::Policy => memory.bytes.extend(ask.policy),
                 Handed::Request => memory.bytes.extend(ask.request),
+                Handed::Requests => memory.bytes.extend(row(ask)),
                 Handed::Bank => memory.bytes.extend(ask.bank),
                 Handed::Record => memory.bytes.extend(ask.record),
                 Handed::Listed => memory.bytes.extend(list_to_read(ask)),
                 Handed::Form => memory.bytes.extend(&ask.form),
-                Handed::Id | Handed::Place => unreachable!("a number stands nowhere"),
+                Handed::Id | Handed::Place | Handed::Count => unreachable!("a number stands nowhere"),
             }
             memory.lent.push((handed, start..memory.bytes.len()));
         }
@@ -98,6 +101,7 @@ impl Memory {
             // A u32 is the lower half of its register: what the upper half holds must not matter.
             Handed::Id => vec![(0, u64::from(ask.id) | 0xa5a5_a5a5 << 32)],
             Handed::Place => vec![(0, ask.place)],
+            Handed::Count => vec![(0, count(ask))],
             _ => {
                 let range = self.range(handed).expect("lent, since it is taken");
                 vec![(1, range.start as u64), (0, range.len() as u64)]

@@ -47,22 +47,69 @@ const REFUSED: [&[u8]; CALLS.len()] = [
     &[1, 4, 5, 16, 22, 23, 27, 34],
     &[1, 4, 5, 16, 22, 23, 27, 34],
     &[1, 4, 22, 23, 27, 34],
+    &[1, 4, 22, 23],
+    &[1, 3, 4, 22, 23],
 ];
 
 /// What each call prints in place of an answer, from the third on by the desk alone; 19 takes 901 models, and random cases may miss it.
 const PRINTED_REFUSED: [u8; 11] = [3, 10, 11, 12, 13, 14, 15, 20, 21, 22, 23];
 
-/// The sentences, as far as they are told apart.
-const SENTENCES: [&str; 9] = [
-    "Latency:  ms today; it must ",
+/// The sentences without their numbers, as far as they are told apart. A provider above 63 has been refused before.
+const SENTENCES: [&str; 42] = [
+    "A field of the input has a length that its tag does not have",
+    "A field of the input is missing, out of its order, or one to",
+    "Chosen: model , at a cost of  microunits, with a utility of ",
+    "Every model is switched off.",
+    "Latency alone:  ms today; it must fall to at most  ms.",
+    "Model  has a quality of  basis points; at most  are allowed.",
+    "Model  has a risk ceiling of  basis points; at most  are all",
+    "Model  has provider ; providers go from  to .",
     "Model  is chosen already.",
-    "Model  is only switched off:",
-    "Model  is switched off, and ",
-    "No single change would make ",
-    "Price:  percent today; it mu",
-    "Quality:  basis points today",
-    "Risk ceiling:  basis points ",
-    "The request itself is stoppe",
+    "Model  is listed more than once.",
+    "Model  is not listed.",
+    "Model  is outranked by model : its utility of  microunits is",
+    "Model  is over budget: it costs  microunits,  more than the ",
+    "Model  is rejected: its capabilities, mask , lack some of th",
+    "Model  is rejected: its latency of  ms is above the limit of",
+    "Model  is rejected: its provider  is not among those allowed",
+    "Model  is rejected: its quality of  basis points is below th",
+    "Model  is rejected: its regions, mask , have none of those r",
+    "Model  is rejected: its utility of - microunits is not above",
+    "Model  is rejected: the request's risk of  basis points is a",
+    "Model  is switched off.",
+    "No change to a model would help.",
+    "No model is listed.",
+    "Nor would its quality, latency or risk ceiling alone.",
+    "Nothing is chosen: no model is eligible, with reason .",
+    "Nothing is chosen: the request is stopped, since its confide",
+    "Nothing is chosen: the request is stopped, since its risk of",
+    "Price alone: it must fall by . percent or more; exactly, by ",
+    "Price alone: no price, not even , would make it the choice.",
+    "Price alone: not searched, since the model is chosen already",
+    "Price alone: not searched, since the model is switched off.",
+    "Price alone: not searched, since the request is stopped.",
+    "Quality alone:  basis points today; it must rise to at least",
+    "Risk ceiling alone:  basis points today; it must rise to at ",
+    "Switched on, it would be chosen.",
+    "Switched on, it would still not be chosen.",
+    "The input ends within a field.",
+    "The input's rounding, under tag , is not .",
+    "The policy's hard risk limit is  basis points; at most  are ",
+    "The policy's minimum confidence is  basis points; at most  a",
+    "The policy's risk multiplier is  basis points; at most  are ",
+    "The requested model  is not listed.",
+];
+
+/// Those that random cases may miss.
+const RARE_SENTENCES: [&str; 8] = [
+    "Model  is outranked by model : at the same utility and cost,",
+    "Model  is outranked by model : at the same utility, cost and",
+    "Model  is outranked by model : at the same utility, its cost",
+    "Model  is rejected: its utility of  microunits is not above ",
+    "More than  models are listed.",
+    "The request's confidence is  basis points; at most  are allo",
+    "The request's minimum quality is  basis points; at most  are",
+    "The request's risk is  basis points; at most  are allowed.",
 ];
 
 fn assert_seen(figures: &Figures, what: &str) {
@@ -98,7 +145,7 @@ fn assert_reached(figures: &Figures) {
         refused.chain([(ASK, 5), (WORDS, 5)]).map(|(call, number)| (call, format!("prints refused {number}")));
     let lines = (1..=4).map(|lever| (UNIT, format!("prints lever {lever}")));
     let lines = lines.chain((1..=5).map(|lever| (ASK, format!("prints lever {lever}"))));
-    let said = SENTENCES.map(|sentence| (WORDS, format!("says {sentence}")));
+    assert_said(figures, &SENTENCES);
     let others = [
         (UNIT, "prints decision"),
         (UNIT, "prints rejected"),
@@ -130,10 +177,17 @@ fn assert_reached(figures: &Figures) {
         (COMPACT, "gaps closed"),
     ];
     let others = others.map(|(call, what)| (call, what.to_string()));
-    let printed = refused.chain(lines).chain(said);
+    let printed = refused.chain(lines);
     for (call, what) in gates.chain(verdicts).chain(levers).chain(margins).chain(printed).chain(others) {
         let times = figures.found.get(&(call, what.clone()));
         assert!(times.is_some_and(|times| *times > 10), "{}: {what}", CALLS[call].name);
+    }
+}
+
+fn assert_said(figures: &Figures, sentences: &[&str]) {
+    for sentence in sentences {
+        let times = figures.found.get(&(WORDS, format!("says {sentence}")));
+        assert!(times.is_some_and(|times| *times > 10), "ask_words: says {sentence}");
     }
 }
 
@@ -144,10 +198,11 @@ fn the_small_spaces_reach_everything() {
         (space.each)(&mut |case| note(&mut figures, &space.asked, &case));
     }
     assert_reached(&figures);
+    assert_said(&figures, &RARE_SENTENCES);
     ROUNDINGS.iter().for_each(|what| assert_seen(&figures, what));
     // Only banks of 65,536 records and more; neither a request nor a list is a bank.
     let banks = (0..CALLS.len()).filter(|call| REFUSED[*call].contains(&1));
-    assert!(banks.clone().count() == 22 && banks.into_iter().all(|call| figures.refused.contains_key(&(call, 2))));
+    assert!(banks.clone().count() == 24 && banks.into_iter().all(|call| figures.refused.contains_key(&(call, 2))));
     assert!(figures.refused.contains_key(&(WRITE_STORED, 18)));
     assert!([UNIT, ASK, WORDS].iter().all(|call| figures.found.contains_key(&(*call, "prints refused 19".into()))));
 }

@@ -176,7 +176,11 @@ fn budgets() {
     assert_eq!(owed.out, bounded(chosen, 1, 64, &levers), "(G) with a budget of 1, once: its margin");
     let [apart, owed] = both(WIN, &budget);
     let price = [3, 1_000_000, 999_999, 1, 0];
-    assert_eq!(apart.out, bounded(rejected(108), 1, 26, &[price]), "(G) with a budget of 1, apart: its price must fall");
+    assert_eq!(
+        apart.out,
+        bounded(rejected(108), 1, 26, &[price]),
+        "(G) with a budget of 1, apart: its price must fall"
+    );
     assert_eq!(owed.out, bounded(chosen, 1, 1, &[]), "(G) with a budget of 1, once: chosen already");
 }
 
@@ -215,7 +219,11 @@ fn pairs() {
     let left = [42, 1, 1, 1, 0, 2, 6_998, 0, 0, 2, 1, 7, 3];
     let nothing = bounded(left, 2, 5, &[]);
     assert_eq!(apart.out, nothing, "two, the second with a ceiling below the risk, apart: no ceiling makes it win");
-    assert_eq!(owed.out, bounded(left, 2, 19, &[[4, 900, 1_000, 0, 0]]), "two, the second with a ceiling below the risk, once: 1,000 does");
+    assert_eq!(
+        owed.out,
+        bounded(left, 2, 19, &[[4, 900, 1_000, 0, 0]]),
+        "two, the second with a ceiling below the risk, once: 1,000 does"
+    );
 }
 
 #[test]
@@ -380,8 +388,10 @@ fn what_is_printed() {
     assert_eq!(printed(UNIT, &input), [decision, lines].concat(), "the example once");
     let lines = [decision, "lever 3 1000000 443888 799\npasses 26\n"].concat();
     assert_eq!(printed(ASK, &input), lines, "asked at the desk, once");
-    let words = "Price: 100 percent today; it must fall by at least 55.6112 percent, to 44.3888 percent; the request then costs \
-                 799 microunits.\n";
+    let words = "Chosen: model 2, at a cost of 300 microunits, with a utility of 6200 microunits.\n\
+                 Model 1 is outranked by model 2: its utility of 5200 microunits is below 6200.\n\
+                 Price alone: it must fall by 55.7 percent or more; exactly, by 55.6112 percent, to 44.3888 percent of today's, \
+                 where the request costs 799 microunits.\n";
     assert_eq!(printed(WORDS, &input), words, "in words, once");
 }
 
@@ -394,7 +404,10 @@ fn inputs_that_are_refused() {
     let (numbers, bank) = form.split_at(POLICY_FIELD);
     for call in [UNIT, ASK, WORDS] {
         let refused = |number: u8, input: &[&[u8]], row: &str| {
-            assert_eq!(printed(call, input), format!("refused {number}\n"), "{row}, {}", CALLS[call].name);
+            let text = printed(call, input);
+            assert_eq!(text.lines().next(), Some(&format!("refused {number}")[..]), "{row}, {}", CALLS[call].name);
+            // the desk is told in words too
+            assert_eq!(text.lines().count(), if call == WORDS { 2 } else { 1 }, "{row}, {}", CALLS[call].name);
         };
         refused(23, &[form, &[4, 1, 0, 0], request], "a body of 0: 23");
         refused(22, &[form, &[4, 0, 0], request], "no body: 22");

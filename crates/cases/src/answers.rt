@@ -23,15 +23,15 @@ pub(crate) const ASK: u8 = 1;
 pub(crate) const WORDS: u8 = 2;
 
 // More than any text has.
-pub(crate) const ROOM: usize = 900;
+pub(crate) const ROOM: usize = 1_300;
 
 // The library's buffer: a text's length in so many bytes, then the room.
 const LENGTH_BYTES: usize = 8;
 
-const LIBRARY_ROOM: usize = 908;
+const LIBRARY_ROOM: usize = 1_308;
 
 // Stands for three rooms: more than enough, one byte less than enough, none.
-pub(crate) const EACH_ROOM: usize = 901;
+pub(crate) const EACH_ROOM: usize = 1_301;
 
 // An answer as one number: the size written, or beyond every size its refusal.
 fn told(answer: Written) -> usize {
@@ -61,7 +61,7 @@ fn print_into(call: u8, input: &[u8], id: u32, out: &mut [u8], room: usize) -> u
 
 // Whether a call prints a text into so much room; where that is too little, that it refuses and writes nothing.
 fn answers_in(call: u8, input: &[u8], id: u32, text: &[u8], room: usize) -> bool
-    requires { ⌜ room ≤ 900 ⌝ }
+    requires { ⌜ room ≤ 1300 ⌝ }
 {
     let mut out = [MARK; ROOM];
     let size = print_into(call, input, id, &mut out, room);
@@ -118,26 +118,7 @@ pub(crate) fn answers(call: u8, input: &[u8], id: u32, text: &[u8], room: usize)
     answers_each(call, input, id, text)
 }
 
-// The line of a refusal, of one digit or two.
-pub(crate) fn refuses(call: u8, input: &[u8], id: u32, number: u8) -> bool {
-    let tens = b'0' + number / 10;
-    let ones = b'0' + number % 10;
-    if number < 10 {
-        let line = [b'r', b'e', b'f', b'u', b's', b'e', b'd', b' ', ones, b'\n'];
-        return answers_each(call, input, id, &line);
-    }
-    let line = [
-        b'r',
-        b'e',
-        b'f',
-        b'u',
-        b's',
-        b'e',
-        b'd',
-        b' ',
-        tens,
-        ones,
-        b'\n',
-    ];
-    answers_each(call, input, id, &line)
+// Whether the desk says a text.
+pub(crate) fn says(input: &[u8], id: u32, text: &[u8]) -> bool {
+    answers_each(WORDS, input, id, text)
 }

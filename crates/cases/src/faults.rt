@@ -43,6 +43,16 @@ pub(crate) fn number_for(call: u8, fault: usize) -> u8 {
     }
 }
 
+// Which fault of its number it is: 3 and 10 have one for each field, 13 one for each model, 14 one for each field of each model.
+pub(crate) fn variant_of(fault: usize) -> u8 {
+    match fault {
+        18 | 23 | 25 | 30 => 1,
+        19 | 26 | 31 => 2,
+        27 => 3,
+        _ => 0,
+    }
+}
+
 // Where an input with a fault ends, if its request's field begins at a place; 15 is a byte too many.
 pub(crate) fn end_for(fault: usize, request: usize) -> usize
     requires { ⌜ (36 ≤ request) × (request ≤ 65600) ⌝ }

@@ -28,7 +28,7 @@ use crate::texts::prints;
 const GROUPS: u64 = 10;
 
 // More rooms than the longest of the example's texts has bytes.
-const ROOMS: usize = 180;
+const ROOMS: usize = 320;
 
 // Groups 1 to 4: the example damaged, through each call.
 fn damage(kind: u64, number: usize) -> Seen {
@@ -38,7 +38,7 @@ fn damage(kind: u64, number: usize) -> Seen {
     if case.number == NO_CASE {
         return Seen::NoCase;
     }
-    judged(prints(call, &input, case.end, 1, case.number))
+    judged(prints(call, &input, case.end, 1, case.number, 0))
 }
 
 // Group 9: the example printed into each room.

@@ -41,8 +41,8 @@ fn value_of(which: usize) -> u16 {
     }
 }
 
-// Row (D): nothing is evaluated.
-fn risky(call: u8, input: &[u8]) -> bool {
+// Row (D): nothing is evaluated. The sentences name the risk.
+fn risky(call: u8, input: &[u8], words: &[u8]) -> bool {
     told(
         call,
         input,
@@ -51,8 +51,28 @@ fn risky(call: u8, input: &[u8]) -> bool {
             rejected 0 0 0 0 0 0 0 0 0\n",
         b"decision 42 3 100 0 65535 0 0 0 0 0 0 7 3\n\
             passes 1\n",
-        b"The request itself is stopped, with reason 100: no change to a model would help.\n",
+        words,
         EACH_ROOM,
+    )
+}
+
+// Above the hard limit, and at it.
+fn is_stopped(which: usize, call: u8, input: &[u8]) -> bool {
+    if which == 6 {
+        return risky(
+            call,
+            input,
+            b"Nothing is chosen: the request is stopped, since its risk of 10000 basis points is not below the policy's hard limit of 9000.\n\
+                No change to a model would help.\n\
+                Price alone: not searched, since the request is stopped.\n",
+        );
+    }
+    risky(
+        call,
+        input,
+        b"Nothing is chosen: the request is stopped, since its risk of 9000 basis points is not below the policy's hard limit of 9000.\n\
+            No change to a model would help.\n\
+            Price alone: not searched, since the request is stopped.\n",
     )
 }
 
@@ -66,7 +86,10 @@ fn above_ceilings(call: u8, input: &[u8]) -> bool {
             rejected 0 0 2 0 0 0 0 0 0\n",
         b"decision 42 3 110 0 65535 0 0 0 0 2 0 7 3\n\
             passes 5\n",
-        b"No single change would make model 1 the choice.\n",
+        b"Nothing is chosen: no model is eligible, with reason 110.\n\
+            Model 1 is rejected: the request's risk of 8999 basis points is above its ceiling of 8000.\n\
+            Price alone: no price, not even 0, would make it the choice.\n\
+            Nor would its quality, latency or risk ceiling alone.\n",
         EACH_ROOM,
     )
 }
@@ -86,7 +109,9 @@ fn multiplied(call: u8, input: &[u8]) -> bool {
         b"decision 42 2 2 2 1 300 2200 1 1200 2 2 7 3\n\
             lever 3 1000000 443333 798\n\
             passes 26\n",
-        b"Price: 100 percent today; it must fall by at least 55.6667 percent, to 44.3333 percent; the request then costs 798 microunits.\n",
+        b"Chosen: model 2, at a cost of 300 microunits, with a utility of 2200 microunits.\n\
+            Model 1 is outranked by model 2: its utility of 1200 microunits is below 2200.\n\
+            Price alone: it must fall by 55.7 percent or more; exactly, by 55.6667 percent, to 44.3333 percent of today's, where the request costs 798 microunits.\n",
         EACH_ROOM,
     )
 }
@@ -95,7 +120,7 @@ fn multiplied(call: u8, input: &[u8]) -> bool {
 fn is_told(which: usize, call: u8, input: &[u8]) -> bool {
     match which {
         0..=5 => is_example(call, input, 1, EACH_ROOM),
-        6..=7 => risky(call, input),
+        6..=7 => is_stopped(which, call, input),
         8 => above_ceilings(call, input),
         _ => multiplied(call, input),
     }

@@ -16,6 +16,7 @@ mod orders;
 mod pairs;
 mod parts;
 mod reading;
+mod refused;
 mod rounded;
 mod sizes;
 mod spoken;

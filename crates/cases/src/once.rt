@@ -47,7 +47,9 @@ pub(crate) fn is_once(call: u8, input: &[u8]) -> bool {
         b"decision 42 2 2 2 1 300 6200 1 5200 2 2 7 3\n\
             lever 3 1000000 443888 799\n\
             passes 26\n",
-        b"Price: 100 percent today; it must fall by at least 55.6112 percent, to 44.3888 percent; the request then costs 799 microunits.\n",
+        b"Chosen: model 2, at a cost of 300 microunits, with a utility of 6200 microunits.\n\
+            Model 1 is outranked by model 2: its utility of 5200 microunits is below 6200.\n\
+            Price alone: it must fall by 55.7 percent or more; exactly, by 55.6112 percent, to 44.3888 percent of today's, where the request costs 799 microunits.\n",
         EACH_ROOM,
     )
 }

@@ -15,6 +15,7 @@ use crate::faults::changed_at;
 use crate::faults::changed_to;
 use crate::faults::end_for;
 use crate::faults::number_for;
+use crate::faults::variant_of;
 use crate::tally::Seen;
 use crate::tally::judged;
 use crate::texts::prints;
@@ -107,5 +108,6 @@ pub(crate) fn pair(number: usize) -> Seen {
     let id = if b == UNLISTED { 77_777 } else { 1 };
     let mut input = [0u8; SPACE];
     let end = put_pair(&mut input, a, b);
-    judged(prints(call, &input, end, id, number_for(call, a)))
+    let owed = number_for(call, a);
+    judged(prints(call, &input, end, id, owed, variant_of(a)))
 }

@@ -5,7 +5,6 @@ ghost use Prim.Native.Nat.{_+_, _≤_};
 ghost use lib.ListN.{length};
 use crate::answers::CALLS;
 use crate::answers::EACH_ROOM;
-use crate::answers::refuses;
 use crate::damage::NO_CASE;
 use crate::example::AFTER_BANK;
 use crate::example::BANK;
@@ -17,6 +16,7 @@ use crate::orders::ORDERS;
 use crate::orders::is_order;
 use crate::orders::put_fields;
 use crate::reading::reads_stored;
+use crate::refused::refuses;
 use crate::tally::Seen;
 use crate::tally::judged;
 use crate::texts::is_example;
@@ -285,7 +285,7 @@ fn put_damaged(out: &mut [u8], reader: usize, kind: u64, number: usize) -> Owed
 // Whether a call prints what is owed for an input.
 fn is_printed(call: u8, input: &[u8], number: u8, rounding: u8) -> bool {
     if number != 0 {
-        return refuses(call, input, 1, number);
+        return refuses(call, input, 1, number, 0);
     }
     if rounding == 0 {
         return is_example(call, input, 1, EACH_ROOM);

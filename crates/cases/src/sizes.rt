@@ -2,7 +2,6 @@
 ghost use Prim.Native.Nat.{_≤_};
 use crate::answers::CALLS;
 use crate::answers::EACH_ROOM;
-use crate::answers::refuses;
 use crate::banks::Models;
 use crate::banks::SPACE;
 use crate::banks::length_answer;
@@ -10,6 +9,7 @@ use crate::banks::length_of;
 use crate::banks::put_input;
 use crate::banks::put_long;
 use crate::example::MODELS;
+use crate::refused::refuses;
 use crate::tally::Seen;
 use crate::tally::judged;
 use crate::texts::prints;
@@ -32,7 +32,9 @@ fn with_many_after(call: u8, input: &[u8]) -> bool {
         b"decision 42 2 2 2 1 300 6200 1 5200 900 2 7 3\n\
             lever 3 1000000 443333 798\n\
             passes 26\n",
-        b"Price: 100 percent today; it must fall by at least 55.6667 percent, to 44.3333 percent; the request then costs 798 microunits.\n",
+        b"Chosen: model 2, at a cost of 300 microunits, with a utility of 6200 microunits.\n\
+            Model 1 is outranked by model 2: its utility of 5200 microunits is below 6200.\n\
+            Price alone: it must fall by 55.7 percent or more; exactly, by 55.6667 percent, to 44.3333 percent of today's, where the request costs 798 microunits.\n",
         EACH_ROOM,
     )
 }
@@ -52,7 +54,9 @@ fn with_many_before(call: u8, input: &[u8]) -> bool {
         b"decision 42 2 2 2 899 300 6200 1 5200 900 2 7 3\n\
             lever 3 1000000 443333 798\n\
             passes 26\n",
-        b"Price: 100 percent today; it must fall by at least 55.6667 percent, to 44.3333 percent; the request then costs 798 microunits.\n",
+        b"Chosen: model 2, at a cost of 300 microunits, with a utility of 6200 microunits.\n\
+            Model 1 is outranked by model 2: its utility of 5200 microunits is below 6200.\n\
+            Price alone: it must fall by 55.7 percent or more; exactly, by 55.6667 percent, to 44.3333 percent of today's, where the request costs 798 microunits.\n",
         EACH_ROOM,
     )
 }
@@ -72,7 +76,9 @@ fn with_many_alike(call: u8, input: &[u8]) -> bool {
             lever 4 8000 1000 -\n",
         b"decision 42 1 1 1 0 300 6200 2 6200 900 900 7 3\n\
             passes 1\n",
-        b"Model 1 is chosen already.\n",
+        b"Chosen: model 1, at a cost of 300 microunits, with a utility of 6200 microunits.\n\
+            Model 1 is chosen already.\n\
+            Price alone: not searched, since the model is chosen already.\n",
         EACH_ROOM,
     )
 }
@@ -104,8 +110,8 @@ fn is_told(which: usize, call: u8, input: &[u8]) -> bool {
         0 => with_many_after(call, input),
         1 => with_many_before(call, input),
         2 => with_many_alike(call, input),
-        3..=4 => refuses(call, input, 1, 19),
-        _ => refuses(call, input, 1, 11),
+        3..=4 => refuses(call, input, 1, 19, 0),
+        _ => refuses(call, input, 1, 11, 0),
     }
 }
 
@@ -125,5 +131,6 @@ pub(crate) fn length(number: usize) -> Seen {
     let size = length_of(number / CALLS);
     let mut input = [0u8; SPACE];
     put_long(&mut input, size);
-    judged(prints(call, &input, MODELS + size + 73, 1, length_answer(size, 19)))
+    let owed = length_answer(size, 19);
+    judged(prints(call, &input, MODELS + size + 73, 1, owed, 0))
 }

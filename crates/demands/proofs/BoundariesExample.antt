@@ -5,12 +5,12 @@ use Rattle.rules.proofs.{Opened.rules, Example.bank, Example.policy, Example.re
 use Rattle.rules.specs.{Choice.below, Choice.atLeast, Choice.equal, Bytes.number, Records.Listed, Records.listed, Records.modelOf, Records.modelAt}
 use Rattle.rules.specs.{Records.inputOf, Records.policyWith, Records.policyOf, Records.listedOf, Refused.lengthFaults, Refused.bankFaults}
 use Rattle.rules.specs.{Numbers.isRejection}
-use Rattle.rules.specs.{Numbers.Boundary, Price.costUnder, Decide.stoppedBy, Decide.decisionOf, Listing.firstListed, Levers.Question, Levers.selects}
+use Rattle.rules.specs.{Numbers.Boundary, Price.costUnder, Decide.stoppedBy, Decide.decisionOf, Listing.firstListed, Levers.Question, Levers.selects, Phrases.tenthsUp}
 use Rattle.rules.specs.{Levers.varied, Levers.decisionAt, Levers.wins, Win.whatWouldWinOf, Margin.decisionMarginOf, declared.records.KernelInput.KernelInput}
 use Rattle.rules.specs.{declared.records.PolicySnapshot.PolicySnapshot}
 use Rattle.demands.specs.{Standing.UniqueIds, Demand3.question, Demand3.ofLever, Demand3.entriesFor, Demand3.Unselected, Demand3.SwitchedOn}
 use Rattle.demands.specs.{Demand3.winPasses, Demand3.marginPasses, Demand3.WinExact, Demand3.MarginExact}
-use Rattle.demands.proofs.{Winning.what-would-win-exact, Margins.decision-margin-exact, Passes.searched-passes, Passes.kept-passes}
+use Rattle.demands.proofs.{ToldPrice.told-fall-suffices, Winning.what-would-win-exact, Margins.decision-margin-exact, Passes.searched-passes, Passes.kept-passes}
 
 -- document 01's policy and request
 abbrev pub p : PolicySnapshot
@@ -118,6 +118,11 @@ cost-there = refl
 one-by-price : (v : ℕ) → v ≤ 1000000 → (wins one 3 v ≡ true) ↔ (v ≤ 443333)
 unfolding ofLever equal
 one-by-price = one-to-scale p goes-on decides-two 443333 798 (ap (entriesFor 3) row-B) cost-there
+
+-- and it is after the fall by 55.7 percent that the desk is told, to 44.3 percent
+one-after-the-fall : wins one 3 443000 ≡ true
+unfolding ofLever equal tenthsUp
+one-after-the-fall = told-fall-suffices exact-B 443333 (rw cost-there (ap (entriesFor 3) row-B))
 
 -- and at no quality from 9,000 to 10,000: equal utility at higher cost loses
 one-not-by-quality : (v : ℕ) → 9000 ≤ v → v ≤ 10000 → wins one 1 v ≡ false

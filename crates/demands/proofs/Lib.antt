@@ -30,6 +30,7 @@ pub mod Margins
 pub mod Widest
 pub mod Passes
 pub mod Validated
+pub mod ToldPrice
 pub mod BoundariesExample
 pub mod OnceExample
 pub mod SettingsExample

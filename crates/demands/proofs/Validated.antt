@@ -49,13 +49,20 @@ accepted earlier (l ∷ ls) e =
       within = (model-within (l .model) (none-after (repeatFaults earlier id ++ providerFaults (l .model)) _ this), r .within);
     }
 
+-- no fault of a catalogue: its records are accepted
+records-accepted : (p : PolicySnapshot) (ls : List Listed) → catalogFaults p ls ≡ [] → Accepted [] ls
+unfolding catalogFaults
+records-accepted p ls e =
+    accepted [] ls (none-after (policyFaults p ++ emptyFaults ls) (recordsFaults [] ls) (none-first _ (offFaults ls) e))
+
+pub catalog-unique : (p : PolicySnapshot) (ls : List Listed) → catalogFaults p ls ≡ [] → UniqueIds ls
+catalog-unique p ls e = records-accepted p ls e .unique
+
 -- Demand 3. A BANK THAT VALIDATION ACCEPTS IS SOUND: no fault of its length, unique ids, qualities and ceilings within 10,000
 pub validated-sound : (p : PolicySnapshot) (bank : List ℕ) → validateOf p bank ≡ noFault → Sound bank
-unfolding validateOf catalogFaults
+unfolding validateOf
 validated-sound p bank e =
     let ls = listedOf bank in
     let all = none-found (bankFaults bank ++ catalogFaults p ls) e in
-    let catalog = none-after (bankFaults bank) (catalogFaults p ls) all in
-    let records = none-after (policyFaults p ++ emptyFaults ls) (recordsFaults [] ls) (none-first _ (offFaults ls) catalog) in
-    let a = accepted [] ls records in
+    let a = records-accepted p ls (none-after (bankFaults bank) (catalogFaults p ls) all) in
     record { faultless = none-first (bankFaults bank) (catalogFaults p ls) all; unique = a .unique; within = a .within }

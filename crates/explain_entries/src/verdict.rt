@@ -67,3 +67,28 @@ pub fn candidate_verdict(
         pricing_terms::terms_wide(pricing, model, cost),
     )
 }
+
+// The same of one record by itself, for the desk. It is a function of its own, since with a second caller the one above would no longer be compiled
+// into the loop of `explain`, which then takes a quarter more instructions.
+pub fn verdict_alone(pricing: Pricing, input: KernelInput, model: KernelModel) -> CandidateVerdict
+    requires { ⌜ Settled pricing ⌝ }
+    ensures { λ r. ⌜ toldVerdict r ≡ scanned input model (verdictIn pricing input model) ⌝ }
+{
+    let gate = first_failed_gate(model, input);
+    if 0 < gate {
+        return gate_verdict(gate, gate_detail(model, input, gate));
+    }
+    let rounding = pricing.rounding;
+    let cost = pricing_cost::cost_alone(rounding, model, input);
+    if input.budget_limit_microunits < cost {
+        return CandidateVerdict::OverBudget {
+            cost_microunits: cost,
+            limit_microunits: input.budget_limit_microunits,
+        };
+    }
+    verdict_by_score(
+        input,
+        model,
+        pricing_terms::terms_wide(pricing, model, cost),
+    )
+}

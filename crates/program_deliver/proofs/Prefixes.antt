@@ -5,7 +5,7 @@ use Rattle.rules.proofs.Kit.{_∷_}
 use Rattle.rules.proofs.Kit.{_++_, eqb-true, eqb-false, le-ltb, eq-eqb, ne-eqb, eqb, ltb, length, take, drop, length-take, length-drop, take-take, take-nil}
 use Rattle.rules.proofs.Kit.{take-all}
 use Rattle.rules.specs.{Bytes.number, Refused.Fault, Refused.Faults, Refused.fault, Refused.refuseIf, Refused.unless, Stored.fits, Stored.tagOf}
-use Rattle.rules.specs.{Stored.bodyLength, Stored.bodyOf, Stored.afterOf, Stored.bodyFaults, Stored.fieldFaults, Stored.formFaults, Printed.refusedLine}
+use Rattle.rules.specs.{Stored.bodyLength, Stored.bodyOf, Stored.afterOf, Stored.bodyFaults, Stored.fieldFaults, Stored.formFaults}
 use Rattle.rules.specs.{Printed.programTags, Printed.programFaults}
 use Rattle.stored_layout.proofs.Lengths.{fits-policy, fits-bank, fits-request, fits-rounding}
 use Rattle.program_deliver.specs.Sizes.{readBytes}
@@ -22,8 +22,8 @@ same-front : (fs : Faults) {gs hs : Faults} → Halted gs hs → Halted (fs ++ g
 same-front [] h = h
 same-front (f ∷ fs) h = both f
 
-pub halted-text : {fs gs : Faults} (t u : List ℕ) → Halted fs gs → unless fs refusedLine t ≡ unless gs refusedLine u
-halted-text t u (both f) = refl
+pub halted-text : {fs gs : Faults} (told : Fault → List ℕ) (t u : List ℕ) → Halted fs gs → unless fs told t ≡ unless gs told u
+halted-text told t u (both f) = refl
 
 -- ---- a part of a list
 

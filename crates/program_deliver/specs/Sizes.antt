@@ -13,4 +13,4 @@ abbrev pub askBytes : ℕ
 askBytes = 670
 
 abbrev pub wordsBytes : ℕ
-wordsBytes = 800
+wordsBytes = 1200

@@ -9,5 +9,5 @@ pub const UNIT_BYTES: usize = 840;
 // A decision line, four levers and the passes.
 pub const ASK_BYTES: usize = 670;
 
-// Four sentences.
-pub const WORDS_BYTES: usize = 800;
+// The choice, the requested model, why the other one was not chosen, its price, and four levers.
+pub const WORDS_BYTES: usize = 1_200;

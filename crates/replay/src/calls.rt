@@ -108,12 +108,29 @@ fn edit_call(
     }
 }
 
-// Whether a call changes a bank in its place.
-pub(crate) fn changes_bank(call: u8) -> bool {
-    call == 9 || 27 <= call
+// 31 and 32: a row of requests, of which the count is told.
+fn batch_call(
+    call: u8,
+    count: u64,
+    policy: &[u8],
+    requests: &[u8],
+    bytes: &[u8],
+    out: &mut [u8],
+) -> u64 {
+    match call {
+        31 => volankizo::volankizo_prescribe_batch(policy, requests, count, bytes, out),
+        32 => volankizo::volankizo_prescribe_batch_checked(policy, requests, count, bytes, out),
+        _ => UNKNOWN,
+    }
 }
 
-// The call with this number. What is offered to an edit stands in the request's place, and the bank that is changed in that of the space.
+// Whether a call changes a bank in its place.
+pub(crate) fn changes_bank(call: u8) -> bool {
+    call == 9 || (27 <= call && call <= 30)
+}
+
+// The call with this number. What is offered to an edit, and a row of requests, stand in the request's place, a row's count in that of the place, and
+// the bank that is changed in that of the space.
 pub(crate) fn called(
     call: u8,
     id: u32,
@@ -136,5 +153,8 @@ pub(crate) fn called(
     if call <= 19 {
         return form_call(call, id, place, policy, request, bytes, space, out);
     }
-    live_call(call, id, policy, request, bytes, space, out)
+    if call <= 26 {
+        return live_call(call, id, policy, request, bytes, space, out);
+    }
+    batch_call(call, place, policy, request, bytes, out)
 }

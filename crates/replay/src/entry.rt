@@ -1,6 +1,6 @@
 // One entry of the list. Its first byte says who told the answer: 1 the Rust, 2 a second reading of the rules, 3 both. Then the call's number,
-// the id or the place that it takes (8 bytes), five lengths of two bytes, the policy, the request or the record that is offered, the bytes that are
-// read, the word that is owed, and the policy, the space and the buffer as they are owed after the call.
+// the id, the place or the count that it takes (8 bytes), five lengths of two bytes, the policy, the request, the row of them or the record that is
+// offered, the bytes that are read, the word that is owed, and the policy, the space and the buffer as they are owed after the call.
 use crate::calls::called;
 use crate::calls::changes_bank;
 use endian::u16_at;

@@ -1,8 +1,9 @@
--- Rows by what they show: layouts, gates, counts, reasons and refusals; loading; forms and printing; rounding once; swapping models; the largest banks.
+-- Rows by what they show: layouts, gates, counts, reasons and refusals; loading; forms and printing; the desk's sentences; rounding once; swapping models; the largest banks.
 mod Literals
 mod Vectors
 mod Loading
 mod Printing
+mod Sentences
 mod RoundingRows
 mod SwapRows
 mod Sizes

@@ -4,10 +4,9 @@ use Prim.Native.String.{String}
 use Rattle.rules.specs.{Records.policyOf, Records.inputOf, Refused.Answer, Refused.refused, Refused.answered, Refused.fault}
 use Rattle.rules.specs.{Numbers.StoredPolicy, Stored.writeStoredOf, Stored.writeStoredBuffer, Stored.readStoredOf, Stored.readStoredBuffer}
 use Rattle.rules.specs.{Stored.writeRequestOf, Stored.writeRequestBuffer, Stored.readRequestOf, Text.text, Text.decimal, Printed.decisionLine}
-use Rattle.rules.specs.{Printed.countsLine, Printed.unitText, Printed.askText, Printed.printOf, Printed.printBuffer, Words.leversWords, Words.noneWords}
-use Rattle.rules.specs.{Words.askWords}
-use Rattle.rules.proofs.{Opened.rules, Rows.Row, Rows.says, Example.modelOne, Example.modelTwo, Example.bank, Example.policy, Example.request}
-use Rattle.rules.proofs.{Example.with, Example.uneven, Example.atHardLimit, Example.decision, Example.counts, Example.lever}
+use Rattle.rules.specs.{Printed.countsLine, Printed.unitText, Printed.askText, Printed.printOf, Printed.printBuffer}
+use Rattle.rules.proofs.{Opened.rules, Rows.Row, Rows.says, Example.modelOne, Example.bank, Example.policy, Example.request}
+use Rattle.rules.proofs.{Example.with, Example.uneven, Example.atHardLimit, Example.decision, Example.counts}
 
 -- the example's three fields
 abbrev pub policyField : List ℕ
@@ -89,21 +88,15 @@ is s = text s ++ (10 ∷ [])
 abbrev pub input : List ℕ
 input = form ++ requestField
 
-abbrev inputOfBank : List ℕ → List ℕ → List ℕ
+abbrev pub inputOfBank : List ℕ → List ℕ → List ℕ
 inputOfBank b q = policyField ++ (2 ∷ length b ∷ 0 ∷ b) ++ (3 ∷ 70 ∷ 0 ∷ q)
 
-abbrev risky : List ℕ
+abbrev pub risky : List ℕ
 risky = with 36 (17 ∷ 39 ∷ []) request
 
--- model 1 of provider 64, switched off, and also free of charge
-abbrev unknown : List ℕ
+-- model 1 of provider 64
+abbrev pub unknown : List ℕ
 unknown = with 4 (64 ∷ []) modelOne
-
-abbrev off : List ℕ
-off = with 10 (0 ∷ []) modelOne
-
-abbrev free : List ℕ
-free = with 31 (replicate 16 0) off
 
 -- a text of 11 bytes put into so much room
 abbrev printed : ℕ → Answer ℕ × List ℕ
@@ -136,34 +129,12 @@ printedRows =
     ∷ says "the chosen model asked for" (askText 2 input) (is "decision 42 2 2 2 1 300 6200 1 5200 2 2 7 3" ++ is "passes 1") refl
     ∷ says "not listed: 5" (askText 3 input) (is "refused 5") refl
     ∷ says "3 before 5" (askText 3 (inputOfBank bank risky)) (is "refused 3") refl
-    ∷ says "(B) in words" (askWords 1 input)
-    (is "Price: 100 percent today; it must fall by at least 55.6667 percent, to 44.3333 percent; the request then costs 798 microunits.")
-    refl
-    ∷ says "chosen already, in words" (askWords 2 input) (is "Model 2 is chosen already.") refl
-    ∷ says "stopped, in words" (askWords 1 (inputOfBank bank atHardLimit))
-    (is "The request itself is stopped, with reason 100: no change to a model would help.")
-    refl
-    ∷ says "off, at its price, in words" (askWords 1 (inputOfBank (off ++ modelTwo) request))
-    (is "Model 1 is switched off, and switching it on would not be enough.")
-    refl
-    ∷ says "off, and free of charge, in words" (askWords 1 (inputOfBank (free ++ modelTwo) request))
-    (is "Model 1 is only switched off: switched on, it would be chosen.")
-    refl
-    ∷ says "not listed, in words: 5" (askWords 3 input) (is "refused 5") refl
     ∷ says "a text with a byte to spare" (printed 12) (answered 11, is "refused 21" ++ (255 ∷ [])) refl
     ∷ says "a text with a byte too little: 4" (printed 10) (refused (fault 4), replicate 10 255) refl
     ∷ says "a decision's numbers, each in its own place, with its sign" (decisionLine (decision 1 2 3 4 5 6 (negsuc 6) 8 (pos 9) 10 11 12 13))
     (is "decision 1 2 3 4 5 6 -7 8 9 10 11 12 13")
     refl
     ∷ says "nine counts, each in its own place" (countsLine (counts 1 2 3 4 5 6 7 8 9)) (is "rejected 1 2 3 4 5 6 7 8 9") refl
-    ∷ says "four levers in words"
-    (leversWords 7 (lever 1 8000 8500 none ∷ lever 2 90 60 none ∷ lever 3 1000000 999995 (some 31) ∷ lever 4 100 1000 none ∷ []))
-    (is "Quality: 8000 basis points today; it must rise to at least 8500."
-    ++ is "Latency: 90 ms today; it must fall to at most 60 ms."
-    ++ is "Price: 100 percent today; it must fall by at least 0.0005 percent, to 99.9995 percent; the request then costs 31 microunits."
-    ++ is "Risk ceiling: 100 basis points today; it must rise to at least 1000.")
-    refl
-    ∷ says "no lever, in words" (noneWords 10) (is "No single change would make model 10 the choice.") refl
     ∷ says "0 in decimal" (decimal 0) (text "0") refl
     ∷ says "2 ^ 64 - 1 in decimal" (decimal 18446744073709551615) (text "18446744073709551615") refl
     ∷ []

@@ -214,7 +214,9 @@ programRows =
     (is "decision 42 2 2 2 1 300 6200 1 5200 2 2 7 3" ++ is "lever 3 1000000 443888 799" ++ is "passes 26")
     refl
     ∷ says "in words, once" (askWords 1 (inputWith tagFour))
-    (is "Price: 100 percent today; it must fall by at least 55.6112 percent, to 44.3888 percent; the request then costs 799 microunits.")
+    (is "Chosen: model 2, at a cost of 300 microunits, with a utility of 6200 microunits."
+    ++ is "Model 1 is outranked by model 2: its utility of 5200 microunits is below 6200."
+    ++ is "Price alone: it must fall by 55.7 percent or more; exactly, by 55.6112 percent, to 44.3888 percent of today's, where the request costs 799 microunits.")
     refl
     ∷ says "a body of 0: 23" (unitText (inputWith (4 ∷ 1 ∷ 0 ∷ 0 ∷ []))) (is "refused 23") refl
     ∷ says "no body: 22" (unitText (inputWith (4 ∷ 0 ∷ 0 ∷ []))) (is "refused 22") refl
@@ -222,7 +224,9 @@ programRows =
     ∷ says "a length of 2, then nothing: 22" (unitText (form ++ (4 ∷ 2 ∷ 0 ∷ []))) (is "refused 22") refl
     ∷ says "a body of 0, then a cut request: 23" (unitText (form ++ (4 ∷ 1 ∷ 0 ∷ 0 ∷ 3 ∷ []))) (is "refused 23") refl
     ∷ says "asked at the desk: 23" (askText 1 (inputWith (4 ∷ 1 ∷ 0 ∷ 0 ∷ []))) (is "refused 23") refl
-    ∷ says "in words: 23" (askWords 1 (inputWith (4 ∷ 1 ∷ 0 ∷ 0 ∷ []))) (is "refused 23") refl
+    ∷ says "in words: 23" (askWords 1 (inputWith (4 ∷ 1 ∷ 0 ∷ 0 ∷ [])))
+    (is "refused 23" ++ is "The input's rounding, under tag 4, is not 1.")
+    refl
     ∷ says "two bytes of another tag: 20" (unitText (form ++ (5 ∷ 0 ∷ []))) (is "refused 20") refl
     ∷ says "three: 21" (unitText (form ++ (5 ∷ 0 ∷ 0 ∷ []))) (is "refused 21") refl
     ∷ says "a byte 4 after a whole tag 4: 20" (unitText (form ++ tagFour ++ (4 ∷ []))) (is "refused 20") refl

@@ -37,9 +37,13 @@ use Rattle.rules.specs.{Text.text, Text.digitsOf, Text.decimal, Text.sig
 use Rattle.rules.specs.{Printed.costText, Printed.leverLine, Printed.leverLines, Printed.passesLine, Printed.refusedLine, Printed.programFaults}
 use Rattle.rules.specs.{Printed.unitReport, Printed.unitText, Printed.askFaults, Printed.askReport, Printed.askText, Printed.printOf}
 use Rattle.rules.specs.{Printed.printBuffer}
-use Rattle.rules.specs.{Words.sentence, Words.digit, Words.percent, Words.riseWords, Words.latencyWords, Words.costWords, Words.priceWords}
-use Rattle.rules.specs.{Words.switchWords, Words.leverWords, Words.leversWords, Words.stoppedWords, Words.chosenWords, Words.offWords, Words.noneWords}
-use Rattle.rules.specs.{Words.nothingWords, Words.wordsReport, Words.askWords}
+use Rattle.rules.specs.{Phrases.sentence, Phrases.about, Phrases.comparing, Phrases.digit, Phrases.percent, Phrases.tenthsUp, Phrases.percentUp}
+use Rattle.rules.specs.{NotChosen.ofModel, NotChosen.laterGateWords, NotChosen.gateWords, NotChosen.budgetWords, NotChosen.worthWords, NotChosen.keyWords}
+use Rattle.rules.specs.{NotChosen.outrankedWords, NotChosen.reasonWords, NotChosen.standingWords, FaultWords.tooMany, FaultWords.fieldWords, FaultWords.rangeWords, FaultWords.faultWords}
+use Rattle.rules.specs.{FaultWords.refusedWords, Words.chosenWords, Words.riskWords, Words.confidenceWords, Words.rejectionWords, Words.choiceWords}
+use Rattle.rules.specs.{Words.costWords, Words.fallWords, Words.priceWords, Words.unsearchedWords, Words.riseWords, Words.latencyWords}
+use Rattle.rules.specs.{Words.leverWords, Words.leversWords, Words.offWords, Words.onWords, Words.searchedWords, Words.stoppedWords}
+use Rattle.rules.specs.{Words.alreadyWords, Words.modelWords, Words.wordsReport, Words.askWords}
 
 -- ---- bytes: numbers, records, banks
 
@@ -140,11 +144,23 @@ reporting = tt
 -- ---- and sentences
 
 wording : Unit {0}
-unfolding sentence digit percent riseWords latencyWords costWords priceWords switchWords leverWords leversWords
+unfolding sentence about comparing digit percent tenthsUp percentUp ofModel
 wording = tt
 
+standing : Unit {0}
+unfolding laterGateWords gateWords budgetWords worthWords keyWords outrankedWords reasonWords standingWords
+standing = tt
+
+excusing : Unit {0}
+unfolding tooMany fieldWords rangeWords faultWords refusedWords
+excusing = tt
+
+levering : Unit {0}
+unfolding costWords fallWords priceWords unsearchedWords riseWords latencyWords leverWords leversWords offWords onWords searchedWords
+levering = tt
+
 speaking : Unit {0}
-unfolding wording stoppedWords chosenWords offWords noneWords nothingWords wordsReport askWords
+unfolding wording standing excusing levering chosenWords riskWords confidenceWords rejectionWords choiceWords stoppedWords alreadyWords modelWords wordsReport askWords
 speaking = tt
 
 -- ---- all of them

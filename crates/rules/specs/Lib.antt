@@ -37,4 +37,8 @@ pub mod Live
 -- what the programs print
 pub mod Text
 pub mod Printed
+-- and in words, to the desk
+pub mod Phrases
+pub mod NotChosen
+pub mod FaultWords
 pub mod Words

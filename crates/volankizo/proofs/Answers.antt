@@ -3,10 +3,12 @@
 use Rattle.rules.proofs.Kit.{ℕ, List}
 use Rattle.rules.specs.{Refused.firstFault, Printed.unitText, Printed.askText, Words.askWords}
 use Rattle.rules.proofs.Told.{Same, one-itself}
+use Rattle.version.specs.Version.{thisVersion}
 use Rattle.export_checks.specs.Checks.{Lent, wordOf, checkFaults}
 use Rattle.export_form_parts.specs.Parts.{readStoredCall, readRequestCall}
 use Rattle.export_forms.specs.Forms.{recordAtCall, writeStoredCall, writeRequestCall}
 use Rattle.export_calls.specs.Calls.{prescribeCall, prescribeCheckedCall, explainCall}
+use Rattle.export_batch.specs.Batches.{LentRow, batchCall, batchCheckedCall}
 use Rattle.export_lookups.specs.Lookups.{utilityCall, findCall, nextCall}
 use Rattle.export_catalogue.specs.Catalogue.{validateFaults, trustCall}
 use Rattle.export_bounds.specs.Bounds.{winCall, marginCall}
@@ -15,6 +17,16 @@ use Rattle.export_live_lookups.specs.LiveLookups.{liveFindCall, liveUtilityCall
 use Rattle.export_live_bounds.specs.LiveBounds.{liveWinCall, liveMarginCall}
 use Rattle.export_edits.specs.Edits.{Stock, addCall, replaceCall, removeCall, compactCall}
 use Rattle.export_texts.specs.Texts.{textCall}
+
+pub one-version : Same (λ r. r) thisVersion
+one-version = one-itself _
+
+module _ (l : LentRow) (out : List ℕ) where
+  pub one-prescribe-batch : Same (λ r. r) (batchCall l out)
+  one-prescribe-batch = one-itself _
+
+  pub one-prescribe-batch-checked : Same (λ r. r) (batchCheckedCall l out)
+  one-prescribe-batch-checked = one-itself _
 
 module _ (l : Lent) (policy request bank form list input out : List ℕ) (id place from : ℕ) where
   pub one-prescribe : Same (λ r. r) (prescribeCall l out)

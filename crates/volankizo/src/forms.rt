@@ -77,7 +77,7 @@ pub extern "C" fn volankizo_ask_text(input: &[u8], id: u32, out: &mut [u8]) -> u
     ask_text_delivered(input, id, out)
 }
 
-// The same in words, as `ask ID words` prints it. `out`: 808 bytes always suffice. Refused and written as above.
+// The same in words, as `ask ID words` prints it. `out`: 1208 bytes always suffice. Refused and written as above.
 #[no_mangle]
 pub extern "C" fn volankizo_ask_words(input: &[u8], id: u32, out: &mut [u8]) -> u64
     ensures { λ r. ⌜ (r, now (out .exit)) ≡ textCall (askWords id (now (input .entry))) (now (out .entry)) ⌝ }

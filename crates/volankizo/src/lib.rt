@@ -1,14 +1,18 @@
-// The static library's thirty exported functions: here decisions and what explains, checks and bounds them; in `forms` a record's offset, stored
-// and request forms, printed texts; in `live` a bank whose models are swapped, decided over and edited. They speak bytes and numbers: a policy is
-// 30 bytes, or 31 of which the last says how it rounds (0 apart, 1 once), a request 70, a bank 47 for each record.
+// The static library's thirty-three exported functions: here the version, decisions and what explains, checks and bounds them; in `batch` rows of
+// decisions; in `forms` a record's offset, stored and request forms, printed texts; in `live` a bank whose models are swapped, decided over and
+// edited. They speak bytes and numbers: a policy is 30 bytes, or 31 of which the last says how it rounds (0 apart, 1 once), a request 70, a bank 47
+// for each record.
 // A refusal comes back as one word, number + 2^8 field + 2^16 value + 2^32 (id or place), and 0 where the call answered. A refused
 // call writes nothing, but for a trusted bank that was ordered before it was refused. An answer goes to the start of `out`, which
 // overlaps nothing else that is lent, and the bytes after it stay as they were.
 // The promise of each is one equation for the word and every byte of each writable buffer, so any two permitted answers are equal.
 // Each hands on to one function of the crates `export_..` with the same promise.
+pub mod batch;
 pub mod forms;
 pub mod live;
 
+pub use batch::volankizo_prescribe_batch;
+pub use batch::volankizo_prescribe_batch_checked;
 use export_bounds::margin_delivered;
 use export_bounds::win_delivered;
 use export_calls::explain_delivered;
@@ -39,13 +43,23 @@ pub use live::volankizo_live_remove;
 pub use live::volankizo_live_replace;
 pub use live::volankizo_live_utility_for_model;
 pub use live::volankizo_live_what_would_win;
+use version::version_number;
 ghost use mathlib.Core.Path.{_≡_};
 ghost use Rattle.rules.specs.Refused.{firstFault};
+ghost use Rattle.version.specs.Version.{thisVersion};
 ghost use Rattle.export_checks.specs.Checks.{lent, wordOf, checkFaults};
 ghost use Rattle.export_calls.specs.Calls.{prescribeCall, prescribeCheckedCall, explainCall};
 ghost use Rattle.export_lookups.specs.Lookups.{utilityCall, findCall, nextCall};
 ghost use Rattle.export_catalogue.specs.Catalogue.{validateFaults, trustCall};
 ghost use Rattle.export_bounds.specs.Bounds.{winCall, marginCall};
+
+// Which version of the library this is: 1,000,000 times the major number, 1,000 times the minor one, and the patch's. Takes nothing, writes nothing.
+#[no_mangle]
+pub extern "C" fn volankizo_version() -> u64
+    ensures { λ r. ⌜ r ≡ thisVersion ⌝ }
+{
+    version_number()
+}
 
 // The decision over a bank with its nine counts. `policy` is 30 bytes or 31, `request` 70, `bank` whole records, `out` has room for 83.
 // Refused: 22 for the policy's or the request's length, 23 for the policy's 31st byte, then 1, 2, 4. Written, by offset: 0 sequence u64;

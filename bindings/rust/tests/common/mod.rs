@@ -56,6 +56,42 @@ pub const REQUEST: KernelInput = KernelInput {
     required_region_mask: 0,
 };
 
+/// Every gate can be failed alone.
+pub const STRICT: KernelInput = KernelInput {
+    risk_bps: 4_000,
+    max_p95_latency_ms: 200,
+    required_capabilities: 3,
+    allowed_provider_mask: 0b1001,
+    required_region_mask: 4,
+    ..REQUEST
+};
+
+/// A model that passes `STRICT`.
+pub const SOUND: KernelModel = KernelModel {
+    provider_id: 3,
+    quality_bps: 10_000,
+    risk_ceiling_bps: 5_000,
+    p95_latency_ms: 150,
+    region_mask: 6,
+    ..FIRST
+};
+
+/// A model for each way of falling out, by the order of the counts; the sixth has two ways.
+pub fn failing() -> [KernelModel; 10] {
+    [
+        KernelModel { enabled: 0, ..SOUND },
+        KernelModel { quality_bps: 4_999, ..SOUND },
+        KernelModel { risk_ceiling_bps: 3_999, ..SOUND },
+        KernelModel { p95_latency_ms: 201, ..SOUND },
+        KernelModel { capabilities: 5, ..SOUND },
+        KernelModel { provider_id: 2, ..SOUND },
+        KernelModel { region_mask: 3, ..SOUND },
+        KernelModel { output_cost_microunits_per_million_tokens: 48_000_000, ..SOUND },
+        KernelModel { output_cost_microunits_per_million_tokens: 45_000_000, ..SOUND },
+        KernelModel { provider_id: 64, ..SOUND },
+    ]
+}
+
 /// The bytes that both programs get as their example.
 pub const UNIT_INPUT: &[u8] = include_bytes!("../../../../crates/unit/stdin");
 

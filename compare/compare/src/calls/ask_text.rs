@@ -5,7 +5,7 @@ use crate::case::Ask;
 use crate::judges::Judge;
 use crate::second::deciding::Question;
 use crate::second::forms::PROGRAM_INPUT;
-use crate::second::printed::ask_lines;
+use crate::second::printed::{ask_lines, refused_line};
 use crate::second::refusals::{Passed, Refusal};
 
 pub const CALL: Call = Call {
@@ -29,7 +29,7 @@ fn second(ask: &Ask) -> Passed {
 }
 
 fn answer(ask: &Ask, judge: &dyn Judge) -> Answer {
-    program::answer(ask, judge, report)
+    program::answer(ask, judge, report, |refusal| refused_line(refusal.number))
 }
 
 fn report(judge: &dyn Judge, question: &Question, id: u32) -> Result<String, Refusal> {

@@ -6,7 +6,7 @@ use crate::judges::Judge;
 use crate::second::deciding::Question;
 use crate::second::forms::PROGRAM_INPUT;
 use crate::second::refusals::{Passed, Refusal};
-use crate::second::words::ask_words;
+use crate::second::words::{ask_words, refused_words};
 
 pub const CALL: Call = Call {
     name: "ask_words",
@@ -29,11 +29,11 @@ fn second(ask: &Ask) -> Passed {
 }
 
 fn answer(ask: &Ask, judge: &dyn Judge) -> Answer {
-    program::answer(ask, judge, report)
+    program::answer(ask, judge, report, |refusal| refused_words(ask.id, refusal))
 }
 
 fn report(judge: &dyn Judge, question: &Question, id: u32) -> Result<String, Refusal> {
     let found = program::boundaries(judge, question, id)?;
-    let off = question.listed(id).is_some_and(|model| model.enabled == 0);
-    Ok(ask_words(id, off, &found))
+    let told = judge.explanation(question).1.into_iter().find(|told| told.id == id).map(|told| told.verdict);
+    Ok(ask_words(question, id, told, &found))
 }

@@ -1,5 +1,5 @@
-//! A module for each exported function, but for those on live records: `live` has the siblings of those that read a bank, `edits` those that change
-//! one. A new call is a module with the same parts, a line in `CALLS` below and one in the table of `answer/answer.c`.
+//! A module for each exported function that takes bytes, but for those on live records: `live` has the siblings of those that read a bank, `edits`
+//! those that change one; `prescribe_batch` has both batches. A new call is a module with the same parts, a line in `CALLS` below and one in the table of `answer/answer.c`.
 use crate::case::{hex, Ask, Case};
 use crate::judges::{Judge, Reading, TheRust};
 use crate::second::bytes::{policy_of, request_of};
@@ -19,6 +19,7 @@ pub mod find;
 pub mod live;
 pub mod next_eligible;
 pub mod prescribe;
+pub mod prescribe_batch;
 pub mod prescribe_checked;
 mod program;
 pub mod read_request;
@@ -114,6 +115,9 @@ impl fmt::Display for Disagreement {
 pub enum Handed {
     Policy,
     Request,
+    /// A row of requests, and how many they are said to be.
+    Requests,
+    Count,
     Bank,
     /// A record that is offered.
     Record,
@@ -198,8 +202,10 @@ pub const ADD: usize = 26;
 pub const REPLACE: usize = 27;
 pub const REMOVE: usize = 28;
 pub const COMPACT: usize = 29;
+pub const BATCH: usize = 30;
+pub const BATCH_CHECKED: usize = 31;
 
-pub const CALLS: [Call; 30] = [
+pub const CALLS: [Call; 32] = [
     prescribe::CALL,
     prescribe_checked::CALL,
     utility_for_model::CALL,
@@ -230,6 +236,8 @@ pub const CALLS: [Call; 30] = [
     edits::REPLACE,
     edits::REMOVE,
     edits::COMPACT,
+    prescribe_batch::CALL,
+    prescribe_batch::CHECKED,
 ];
 
 impl Call {

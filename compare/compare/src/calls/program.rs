@@ -6,7 +6,6 @@ use crate::second::boundaries::Boundaries;
 use crate::second::bytes::models_of;
 use crate::second::deciding::Question;
 use crate::second::forms::input_of;
-use crate::second::printed::refused_line;
 use crate::second::refusals::{self, Passed, Refusal};
 use crate::second::rules::Rules;
 
@@ -33,8 +32,8 @@ pub fn rules(ask: &Ask) -> Rules {
     input_of(&ask.form).map_or(Rules::RUST, |input| Rules::of(&input.policy))
 }
 
-/// The text of a call's own, or the line for bad input: 20 to 23 and 19, which the Rust doesn't have, then those of the judge.
-pub fn answer(ask: &Ask, judge: &dyn Judge, report: Report) -> Answer {
+/// The text of a call's own, or what it prints for bad input: 20 to 23 and 19, which the Rust doesn't have, then those of the judge.
+pub fn answer(ask: &Ask, judge: &dyn Judge, report: Report, refused: impl Fn(Refusal) -> String) -> Answer {
     let (by, told) = match input_of(&ask.form) {
         Err(refusal) => (By::Second, Err(refusal)),
         Ok(input) => {
@@ -42,7 +41,7 @@ pub fn answer(ask: &Ask, judge: &dyn Judge, report: Report) -> Answer {
             (By::Printed, judged(judge, &question, ask.id, report))
         }
     };
-    let text = told.unwrap_or_else(|refusal| refused_line(refusal.number)).into_bytes();
+    let text = told.unwrap_or_else(refused).into_bytes();
     let out = [&(text.len() as u64).to_le_bytes()[..], &text].concat();
     Answer { by, ..Answer::of(out) }
 }

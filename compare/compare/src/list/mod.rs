@@ -6,14 +6,15 @@
 //! | Bytes | What |
 //! |---|---|
 //! | 1 | who says what is owed: 1 the Rust, 2 the second reading alone, 3 both: the Rust decides, the second reading prints it |
-//! | 1 | the call: 1 to 30, in the order of `CALLS` |
-//! | 8 | the id or the place that it takes, else 0 |
+//! | 1 | the call: 1 to 32, in the order of `CALLS` |
+//! | 8 | the id, the place or the count that it takes, else 0 |
 //! | 2 each | five lengths: of the policy, the request, the bytes, the space and the buffer; 0 for what the call doesn't take |
-//! | as they say | the policy; the request, or the record that is offered; the bytes, which are the bank, the list or the form that is read |
+//! | as they say | the policy; the request, the row of them, or the record that is offered; the bytes, which are the bank, the list or the form that is read |
 //! | 8 | the word that is owed: the refusal's, or 0 |
 //! | as they say | after the call: the policy; the space, which is the list or the bank that is filled, or the bank that is changed; the buffer |
 //!
 //! Every byte of the space and of the buffer is `FILL` before the call, but for a bank that is changed in its place, by 9 and 27 to 30: it is a copy.
+mod batches;
 mod catalogues;
 mod decisions;
 mod forms;
@@ -24,6 +25,7 @@ mod roundings;
 mod searches;
 
 use crate::calls::next_eligible::list_to_read;
+use crate::calls::prescribe_batch::{count, row};
 use crate::calls::{Answer, By, Handed, ADD, CALLS, COMPACT, TRUST};
 use crate::case::{Ask, Case, Room};
 use crate::generate::{Draw, Policies};
@@ -48,6 +50,7 @@ pub fn entries() -> Vec<Entry> {
     printed::entries(&mut list);
     roundings::entries(&mut list);
     live::entries(&mut list);
+    batches::entries(&mut list);
     list
 }
 
@@ -98,14 +101,15 @@ impl Entry {
         let buffer = after(self.lent(Handed::Out, ask.room), &owed.out);
         let offered = self.part(Handed::Record, ask.record);
         let (policy, request) = (self.part(Handed::Policy, ask.policy), self.part(Handed::Request, ask.request));
-        let request = if request.is_empty() { offered } else { request };
+        let requests = if self.takes(Handed::Requests) { row(&ask) } else { Vec::new() };
+        let request = [request, offered, &requests].concat();
         out.extend([who(owed.by), self.call as u8 + 1]);
-        out.extend(self.number().to_le_bytes());
-        for part in [policy, request, &bytes, &space, &buffer] {
+        out.extend(self.number(&ask).to_le_bytes());
+        for part in [policy, &request, &bytes, &space, &buffer] {
             out.extend(u16::try_from(part.len()).expect("two bytes say its length").to_le_bytes());
         }
         let changed = after(policy.to_vec(), &owed.policy);
-        for part in [policy, request, &bytes, &owed.word().to_le_bytes(), &changed, &space, &buffer] {
+        for part in [policy, &request, &bytes, &owed.word().to_le_bytes(), &changed, &space, &buffer] {
             out.extend(part);
         }
     }
@@ -126,10 +130,11 @@ impl Entry {
         vec![FILL; if self.takes(handed) { room } else { 0 }]
     }
 
-    fn number(&self) -> u64 {
-        match (self.takes(Handed::Id), self.takes(Handed::Place)) {
-            (true, _) => u64::from(self.case.id),
-            (_, true) => self.case.place,
+    fn number(&self, ask: &Ask) -> u64 {
+        match self {
+            _ if self.takes(Handed::Id) => u64::from(self.case.id),
+            _ if self.takes(Handed::Place) => self.case.place,
+            _ if self.takes(Handed::Count) => count(ask),
             _ => 0,
         }
     }
@@ -211,11 +216,14 @@ mod tests {
         assert_eq!(text_of(UNIT, 1), lines);
         let lines = "decision 42 2 2 2 1 300 6200 1 5200 2 2 7 3\nlever 3 1000000 443333 798\npasses 26\n";
         assert_eq!(text_of(ASK, 1), lines);
-        let words = "Price: 100 percent today; it must fall by at least 55.6667 percent, to 44.3333 percent; the request then costs \
-                     798 microunits.\n";
-        assert_eq!(text_of(WORDS, 1), words);
-        assert_eq!(text_of(WORDS, 2), "Model 2 is chosen already.\n");
-        assert_eq!(text_of(WORDS, 3), "refused 5\n");
+        let chosen = "Chosen: model 2, at a cost of 300 microunits, with a utility of 6200 microunits.\n";
+        let words = "Model 1 is outranked by model 2: its utility of 5200 microunits is below 6200.\n\
+                     Price alone: it must fall by 55.7 percent or more; exactly, by 55.6667 percent, to 44.3333 percent of today's, \
+                     where the request costs 798 microunits.\n";
+        assert_eq!(text_of(WORDS, 1), [chosen, words].concat());
+        let already = "Model 2 is chosen already.\nPrice alone: not searched, since the model is chosen already.\n";
+        assert_eq!(text_of(WORDS, 2), [chosen, already].concat());
+        assert_eq!(text_of(WORDS, 3), "refused 5\nModel 3 is not listed.\n");
     }
 
     #[test]

@@ -4,11 +4,11 @@ use crate::calls::{ASK, UNIT, WORDS};
 use crate::case::{Case, Room};
 use crate::form::Damage;
 use crate::generate::catalogues::{sound, FAULTS};
-use crate::generate::example::{example, rows, with_models};
+use crate::generate::example::{example, rows, with_models, with_request};
 use crate::generate::forms::damaged;
 use crate::generate::lists::mixed;
 use crate::generate::printed as generated;
-use oracle::kernel::KernelModel;
+use oracle::kernel::{KernelInput, KernelModel};
 
 pub fn entries(list: &mut Vec<Entry>) {
     worked(list);
@@ -52,8 +52,34 @@ fn faults(list: &mut Vec<Entry>) {
     }
 }
 
-/// Each sentence: switched off with hope and without, chosen, nothing to be done, each lever.
+/// Each sentence: why a model stands as it does, the key by which it is outranked, the request that stops or is refused, the levers.
 fn sentences(list: &mut Vec<Entry>) {
+    standings(list);
+    let alike: [fn(&mut Vec<KernelModel>); 3] = [
+        // utility, then cost, then quality are level with the other model's
+        |models| models[1].quality_bps = 7_000,
+        |models| models[0] = KernelModel { model_id: 1, quality_bps: 7_900, p95_latency_ms: 40, ..models[1] },
+        |models| models[0] = KernelModel { model_id: 3, ..models[1] },
+    ];
+    for change in alike {
+        (1..=3).for_each(|id| add(list, WORDS, with_models(change).case(id)));
+    }
+    let changes: [fn(&mut KernelInput); 9] = [
+        |request| request.confidence_bps = 1_999,
+        |request| request.allowed_provider_mask = 2,
+        |request| request.required_region_mask = 2,
+        |request| request.budget_limit_microunits = 299,
+        |request| request.max_p95_latency_ms = 60,
+        |request| request.requested_model_id = 9,
+        |request| request.risk_bps = 10_001,
+        |request| request.confidence_bps = 10_002,
+        |request| request.minimum_quality_bps = u16::MAX,
+    ];
+    changes.into_iter().for_each(|change| add(list, WORDS, with_request(change).case(1)));
+}
+
+/// Switched off with hope and without, chosen, nothing to be done, each lever.
+fn standings(list: &mut Vec<Entry>) {
     let changes: [fn(&mut Vec<KernelModel>); 6] = [
         |models| models[1].enabled = 0,
         |models| models[0].enabled = 0,

@@ -86,6 +86,14 @@ pub fn policy_and_request(policy: &[u8], request: &[u8]) -> Passed {
     policy_rounding(policy)
 }
 
+/// 22 for the policy's length, 22 for a row of requests that isn't 70 bytes for each of so many or has more of them than 32 bits count, then 23.
+pub fn policy_and_requests(policy: &[u8], requests: &[u8], count: u64) -> Passed {
+    policy_length(policy)?;
+    unless(count > u64::from(u32::MAX), FIELD_LENGTH)?;
+    unless(requests.len() as u64 != count * REQUEST_BYTES as u64, FIELD_LENGTH)?;
+    policy_rounding(policy)
+}
+
 /// 1, then 2.
 pub fn bank(bank: &[u8]) -> Passed {
     unless(!bank.len().is_multiple_of(RECORD_BYTES), BANK_LENGTH)?;

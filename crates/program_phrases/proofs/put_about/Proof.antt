@@ -1,10 +1,12 @@
 -- `program_phrases::put_about` meets its contract. Assumes nothing.
 use Rattle.rules.proofs.Kit.{arith, needs}
+use Rattle.rules.specs.Phrases.{about}
 use Rattle.splice.proofs.Pieces.{written-then, written, promised}
 use Rattle.program_phrases.proofs.put_about.Statement.{statement}
 use Rattle.program_phrases.proofs.put_about.Tie as tie
 
 returns : tie.Need-returns
+unfolding about
 returns c =
     let p = written _ _ _ (c .before .before .before .before .before .before .before .before .before .before .put-text .ensures .0) in
     let q = c .before .before .before .before .before .before .put-number .ensures in

@@ -1,6 +1,6 @@
 -- `program_phrases::put_remark` meets its contract. Assumes nothing.
 use Rattle.rules.proofs.Kit.{arith, needs}
-use Rattle.rules.specs.Words.{sentence}
+use Rattle.rules.specs.Phrases.{sentence}
 use Rattle.splice.proofs.Pieces.{written-then, written, promised}
 use Rattle.program_phrases.proofs.put_remark.Statement.{statement}
 use Rattle.program_phrases.proofs.put_remark.Tie as tie

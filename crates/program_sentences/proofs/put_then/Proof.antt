@@ -1,8 +1,8 @@
 -- `program_sentences::put_then` meets its contract. Assumes nothing.
 use Rattle.rules.proofs.Kit.{arith, needs}
 use Rattle.rules.specs.{Text.text, Words.costWords}
-use Rattle.program_sentences.proofs.put_then.Statement.{statement}
 use Rattle.splice.proofs.Pieces.{written, promised}
+use Rattle.program_sentences.proofs.put_then.Statement.{statement}
 use Rattle.program_sentences.proofs.put_then.Tie as tie
 
 returns : tie.Need-returns
@@ -18,5 +18,5 @@ returns-2 c =
     rw (c .before .before .before .before .before .before .before .cost .given .1) (w .0, omega (arith, w .1))
 
 pub put-then-spec : {M : Type 1} → statement M
-put-then-spec = tie.close (tie.spec (λ c. search needs) (λ c. search needs) (λ c κs. search needs) (λ c. search needs) (λ c. search needs) (λ c. search needs)
-    (λ c κs. search needs) (λ c. search needs) returns (λ c. search needs) returns-2)
+put-then-spec = tie.close (tie.spec (λ c. search needs) (λ c. search needs) (λ c κs. search needs) (λ c. search needs) (λ c. search needs)
+    (λ c. search needs) (λ c κs. search needs) (λ c. search needs) returns (λ c. search needs) returns-2)

@@ -24,5 +24,6 @@ returns c =
     (d .0 ∙ ap (λ (t : List ℕ). printOf t (length out)) f, d .1 ∙ ap (λ (t : List ℕ). printBuffer t out) f, omega (arith, w .room))
 
 pub ask-words-spec : {M : Type 1} → statement M
-ask-words-spec = tie.close (tie.spec (λ c. search needs) (λ c κs. search needs) array-share-prefix-space slice-aggregate-deliver (λ c κs. search needs)
+ask-words-spec = tie.close (tie.spec (λ c. search needs) (λ c κs. search needs) array-share-prefix-space slice-aggregate-deliver
+    (λ c κs. search needs)
     (λ c. search needs) returns)

@@ -1,0 +1,2 @@
+-- What the exported batches leave.
+pub mod Batches

@@ -1,0 +1,2 @@
+-- Laws of the sentences' pieces, and of which sentence a refusal has.
+pub mod Joins

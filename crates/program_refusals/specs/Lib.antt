@@ -1,0 +1,2 @@
+-- Some of the sentences.
+pub mod Parts

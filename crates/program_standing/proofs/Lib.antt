@@ -1,0 +1,3 @@
+-- Laws of the sentences.
+pub mod Choices
+pub mod Reasons

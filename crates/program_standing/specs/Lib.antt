@@ -1,0 +1,2 @@
+-- Parts of the sentence.
+pub mod Parts

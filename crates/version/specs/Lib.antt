@@ -1,0 +1,2 @@
+-- Which version this is.
+pub mod Version
