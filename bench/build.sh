@@ -1,4 +1,4 @@
-# What the three commands share: what is needed, the static library, and the driver. Read by them, not run. After it, `program` is the driver.
+# What the commands share: what is needed, the static library, and the driver. Read by them, not run. After it, `program` is the driver.
 here=$(cd "$(dirname "${BASH_SOURCE[0]}")" && pwd)
 root=$(dirname "$here")
 source "$root/compare/needs.sh"
@@ -20,12 +20,18 @@ driver() {
   VOLANKIZO_PAD=$1 cargo build --manifest-path "$here/Cargo.toml" --offline --locked --release -j1 --quiet || die "the driver was not built"
 }
 
-# counted CALL: has the instructions of each row counted. `lines` and `parts` are then what `bench table` and `bench hold` read.
-counted() {
-  lines=$CARGO_TARGET_DIR/counted.lines
-  parts=$CARGO_TARGET_DIR/counted.parts
+# under_callgrind NAME WORD..: has the instructions of each run that the driver makes by these words counted. `lines` and `parts` are then what it
+# printed and what was counted.
+under_callgrind() {
+  lines=$CARGO_TARGET_DIR/$1.lines
+  parts=$CARGO_TARGET_DIR/$1.parts
   rm -f "$parts"
   # Without ERMS the C library copies by vectors alone: a `rep movsb` would count as an instruction for every byte.
   GLIBC_TUNABLES=glibc.cpu.hwcaps=-ERMS valgrind --quiet --tool=callgrind --toggle-collect=bench_counted --dump-after=bench_counted --combine-dumps=yes \
-    --callgrind-out-file="$parts" "$program" once "$1" >"$lines" || die "the driver stopped under valgrind"
+    --callgrind-out-file="$parts" "$program" "${@:2}" >"$lines" || die "the driver stopped under valgrind"
+}
+
+# counted CALL: of each row, for `bench table` and `bench hold`.
+counted() {
+  under_callgrind counted once "$1"
 }

@@ -60,7 +60,7 @@ extern "C" {
 const THREAD_CPUTIME: i32 = 3;
 
 /// The nanoseconds of processor time that this thread has used.
-fn now() -> f64 {
+pub fn now() -> f64 {
     let mut time = Timespec { seconds: 0, nanoseconds: 0 };
     let status = unsafe { clock_gettime(THREAD_CPUTIME, &mut time) };
     assert_eq!(status, 0, "the clock of this thread is read");

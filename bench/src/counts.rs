@@ -9,7 +9,7 @@ use std::hint::black_box;
 /// One run of a side. Callgrind is told this name: it counts from here to the return, and then writes what it counted as a part of its file.
 #[no_mangle]
 #[inline(never)]
-fn bench_counted(side: &mut Side) {
+pub fn bench_counted(side: &mut Side) {
     side();
     black_box(side);
 }
@@ -53,7 +53,7 @@ pub fn read(lines: &str, parts: &str) -> Counts {
 }
 
 /// What each part that was written after a run of a side sums up to. The part that callgrind writes at the program's end is none of them.
-fn totals(parts: &str) -> Vec<f64> {
+pub fn totals(parts: &str) -> Vec<f64> {
     let text = fs::read_to_string(parts).unwrap_or_else(|e| panic!("{parts}: {e}"));
     let mut after_a_run = false;
     let mut totals = Vec::new();

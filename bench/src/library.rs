@@ -5,12 +5,35 @@ type Bytes = *const u8;
 type Lent = *mut u8;
 
 extern "C" {
+    fn volankizo_version() -> u64;
     fn volankizo_prescribe(p: Bytes, pn: usize, q: Bytes, qn: usize, b: Bytes, bn: usize, o: Lent, on: usize) -> u64;
     fn volankizo_prescribe_checked(
         p: Bytes,
         pn: usize,
         q: Bytes,
         qn: usize,
+        b: Bytes,
+        bn: usize,
+        o: Lent,
+        on: usize,
+    ) -> u64;
+    fn volankizo_prescribe_batch(
+        p: Bytes,
+        pn: usize,
+        q: Bytes,
+        qn: usize,
+        count: u64,
+        b: Bytes,
+        bn: usize,
+        o: Lent,
+        on: usize,
+    ) -> u64;
+    fn volankizo_prescribe_batch_checked(
+        p: Bytes,
+        pn: usize,
+        q: Bytes,
+        qn: usize,
+        count: u64,
         b: Bytes,
         bn: usize,
         o: Lent,
@@ -269,8 +292,11 @@ macro_rules! addresses {
 }
 
 addresses! {
+    volankizo_version
     volankizo_prescribe
     volankizo_prescribe_checked
+    volankizo_prescribe_batch
+    volankizo_prescribe_batch_checked
     volankizo_utility_for_model
     volankizo_find
     volankizo_check_request

@@ -3,14 +3,20 @@
 //! row once and prints a line for it. Of these lines (LINES) and of what callgrind wrote (PARTS), `bench table LINES PARTS TIMES..` makes
 //! the table of times and instructions, and `bench hold LINES PARTS RECORD` holds the instructions against a recorded table: it ends with 1
 //! where a row has more. `bench stack` tells how much stack each call takes.
+//! `bench longest [CALL [whole]]`, under callgrind, runs the longest inputs of each call once, `bench worst LINES PARTS RECORD` tells their instructions
+//! and holds them against a recorded table, `bench seconds [CALL]` times them, `bench owed` holds their answers against those owed, and `bench passes` tells
+//! how far their searches went. `bench drawn [CALL]`, under callgrind, runs what is drawn beside them, `bench beside LINES PARTS` holds that against them, and
+//! `bench draw CALL NUMBER` tells one of these cases.
 mod clock;
 mod counts;
+mod lent;
 mod library;
 mod live;
 mod mixes;
 mod rows;
 mod stack;
 mod table;
+mod worst;
 
 use clock::{median, Side};
 use rows::{Checked, Row};
@@ -45,7 +51,23 @@ fn main() {
         Some("table") if words.len() > 3 => table::print(&counts::read(&words[1], &words[2]), &words[3..]),
         Some("hold") if words.len() == 4 => hold(&words),
         Some("stack") => stack::print(),
-        _ => panic!("usage: bench rows ROUNDS [CALL], once [CALL], table LINES PARTS TIMES.., hold LINES PARTS RECORD, or stack"),
+        Some("longest") => worst::count(only(1), only(2) == "whole"),
+        Some("worst") if words.len() == 4 => told(&worst::print(&worst::Totals::read(&words[1], &words[2]), &words[3])),
+        Some("drawn") => worst::drawn::count(only(1)),
+        Some("beside") if words.len() == 3 => told(&worst::drawn::print(&words[1], &words[2])),
+        Some("draw") if words.len() == 3 => worst::drawn::tell(&words[1], words[2].parse().expect("a draw's number")),
+        Some("owed") => worst::check(),
+        Some("seconds") => worst::times(only(1)),
+        Some("passes") => worst::passes(),
+        _ => panic!("usage: bench rows, once, table, hold, stack, longest, worst, drawn, beside, draw, owed, seconds or passes, as the first lines of main.rs tell"),
+    }
+}
+
+/// Ends with 1 where anything is wrong.
+fn told(wrong: &[String]) {
+    wrong.iter().for_each(|line| eprintln!("{line}"));
+    if !wrong.is_empty() {
+        exit(1);
     }
 }
 

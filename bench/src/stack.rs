@@ -1,25 +1,26 @@
 //! The deepest stack of each call. It runs on a stack of its own that was painted before; the lowest byte that lost its paint shows how
 //! deep it went.
-use crate::library::ADDRESSES;
+use crate::lent::{address, call_at, Lent, ARGUMENTS, VERSION};
 use crate::mixes::Mix;
-use compare::calls::{Call, Handed, CALLS};
+use compare::calls::{Call, Handed};
 use compare::generate::live::FREE;
 use compare::generate::random::Random;
 use compare::generate::Setting;
-use compare::second::bytes::{bank_bytes, model_of, policy_bytes, request_bytes};
+use compare::second::bytes::model_of;
 use compare::second::rules::Rounding;
 use std::arch::asm;
 use std::collections::BTreeSet;
 use std::hint::black_box;
 
+/// The requests that are handed to a batch.
+const REQUESTS: usize = 3;
 const STACK_BYTES: usize = 1 << 18;
 const PAINT: u8 = 0xa5;
-/// The arguments that go over in registers, and those that go over on the stack.
-const IN_REGISTERS: usize = 6;
-const ON_STACK: usize = 4;
+/// The arguments that don't go over in registers.
+const ON_STACK: usize = ARGUMENTS - 6;
 
 /// Calls a function with the stack pointer at `top`, which is a multiple of 16.
-unsafe fn call_on(top: *mut u8, function: usize, a: &[usize; IN_REGISTERS + ON_STACK]) -> u64 {
+unsafe fn call_on(top: *mut u8, function: usize, a: &[usize; ARGUMENTS]) -> u64 {
     let answer: u64;
     asm!(
         "mov r12, rsp",
@@ -47,46 +48,24 @@ unsafe fn call_on(top: *mut u8, function: usize, a: &[usize; IN_REGISTERS + ON_S
 }
 
 /// What one call handed back, and how many bytes below its arguments it touched.
-fn depth(function: usize, arguments: &[usize]) -> (u64, usize) {
+fn depth(function: usize, arguments: &[usize; ARGUMENTS]) -> (u64, usize) {
     let mut stack = vec![PAINT; STACK_BYTES];
-    let mut a = [0; IN_REGISTERS + ON_STACK];
-    a[..arguments.len()].copy_from_slice(arguments);
     let top = stack.as_mut_ptr().wrapping_add(STACK_BYTES).map_addr(|address| address & !15);
     let arguments_at = top as usize - 8 * ON_STACK - stack.as_ptr() as usize;
-    let word = black_box(unsafe { call_on(top, function, &a) });
+    let word = black_box(unsafe { call_on(top, function, arguments) });
     let touched = black_box(&stack).iter().position(|&byte| byte != PAINT).expect("a call leaves its return address");
     assert!(touched > STACK_BYTES / 2, "the stack is large enough");
     (word, arguments_at - touched)
 }
 
-/// Asks a call on a setting for the model with this id. It is handed each slice as an address and a length, in the order that the comparison
-/// has for the call.
+/// Asks a call on a setting for the model with this id, which is also that of the record that an edit is offered.
 fn asked(call: &Call, setting: &Setting, id: u32) -> (u64, usize) {
-    let (mut policy, mut request) = (policy_bytes(&setting.policy), request_bytes(&setting.request));
-    let (mut bank, mut out) = (bank_bytes(&setting.models), vec![0u8; 4096]);
-    let mut list = vec![0u8; 72 * setting.models.len()];
-    let mut record = bank_bytes(&[setting.models[0]]);
-    record[..4].copy_from_slice(&id.to_le_bytes());
-    let mut form = call.ask(&setting.case(id)).form;
-    let mut arguments = Vec::new();
-    let slice = |bytes: &mut [u8]| [bytes.as_mut_ptr() as usize, bytes.len()];
-    for taken in call.takes {
-        use compare::calls::Handed::*;
-        match taken {
-            Policy => arguments.extend(slice(&mut policy)),
-            Request => arguments.extend(slice(&mut request)),
-            Bank => arguments.extend(slice(&mut bank)),
-            Record => arguments.extend(slice(&mut record)),
-            Out => arguments.extend(slice(&mut out)),
-            List | Listed => arguments.extend(slice(&mut list)),
-            Form => arguments.extend(slice(&mut form)),
-            Id => arguments.push(id as usize),
-            Place => arguments.push(0),
-        }
+    let mut case = setting.case(id);
+    case.record[..4].copy_from_slice(&id.to_le_bytes());
+    if call.takes.contains(&Handed::Requests) {
+        case.request = case.request.repeat(REQUESTS);
     }
-    let name = format!("volankizo_{}", call.name);
-    let (_, address) = ADDRESSES.iter().find(|(known, _)| *known == name).expect("the library has every call");
-    depth(address(), &arguments)
+    depth(address(call), &Lent::of(call, &case).arguments(call))
 }
 
 /// The deepest of a call on all settings, for each model and for none where it takes an id or a record. A refusal is shallow: one question at least is answered.
@@ -131,6 +110,19 @@ fn settings() -> Vec<Setting> {
     all
 }
 
+/// The deepest of an exported call, by its place. A batch is asked over the unit's number of models too. The version is no refusal, and takes nothing.
+fn deepest_at(place: usize, few: &[Setting]) -> usize {
+    let call = call_at(place);
+    if place == VERSION {
+        return depth(address(call), &[0; ARGUMENTS]).1;
+    }
+    if call.takes.contains(&Handed::Requests) {
+        let many: Vec<Setting> = Mix::ALL.iter().flat_map(|mix| mix.settings(900, 1)).collect();
+        return deepest(call, few).max(deepest(call, &many));
+    }
+    deepest(call, few)
+}
+
 /// A line for each call that the header declares, the least first.
 pub fn print() {
     let header = include_str!("../../include/volankizo.h");
@@ -138,11 +130,12 @@ pub fn print() {
     let declared: BTreeSet<&str> = declared.collect();
     assert_eq!(
         declared,
-        CALLS.iter().map(|call| call.name).collect(),
-        "the header and the comparison have the same calls"
+        (0..=VERSION).map(|place| call_at(place).name).collect(),
+        "the header has the comparison's calls and the version"
     );
     let settings = settings();
-    let mut depths: Vec<(usize, &str)> = CALLS.iter().map(|call| (deepest(call, &settings), call.name)).collect();
+    let mut depths: Vec<(usize, &str)> =
+        (0..=VERSION).map(|place| (deepest_at(place, &settings), call_at(place).name)).collect();
     depths.sort();
     println!("| Call | Deepest stack, bytes |");
     println!("|---|---|");
