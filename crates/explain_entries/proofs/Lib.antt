@@ -1,2 +1,3 @@
--- What a record is told is what the scan used, for the list of all entries.
+-- What a record is told is what the scan used, for one record and for the list of all entries.
+pub mod Ways
 pub mod Verdicts
