@@ -1,6 +1,6 @@
 /* The calls of libvolankizo.a: version, contract, layouts, refusals, numbers; then what each call takes, writes and refuses.
  *
- * VERSION. VOLANKIZO_VERSION is this header's, volankizo_version() the library's: 1,000,000 * major + 1,000 * minor + patch, so 0.4.0 is 4000, and a
+ * VERSION. VOLANKIZO_VERSION is this header's, volankizo_version() the library's: 1,000,000 * major + 1,000 * minor + patch, so 0.5.0 is 5000, and a
  * later version has a higher number. A higher patch changes no byte of any answer, no declaration and no number of this header. A higher minor may
  * add calls, refusal numbers, enum values, tags and macros; from 1.0.0 on it changes nothing that was there, and while the major number is 0 it may,
  * and CHANGELOG.md says what. Anything else is a higher major. So a header and a library whose versions agree but for the patch fit together.
@@ -22,9 +22,13 @@
  *
  * LAYOUTS. The macros .._AT below have each offset.
  * A policy is 30 bytes: policy epoch u64, catalogue epoch u64, hard risk limit, minimum confidence, risk multiplier (u16 each), latency
- * penalty per ms u64; or 31, the last of which says how it rounds, u8. A cost is tokens times price by the million tokens, input and output, rounded
- * up to whole microunits and at most 2^64 - 1: with 0, as with 30 bytes, each of the two is rounded up apart and then they are added; with 1 they
- * are added and the sum is rounded up once. One token each way at price 1 costs 2 apart, and 1 once.
+ * penalty per ms u64; or 31, the last of which says how it rounds, u8; or 35, with how it rounds and then its latency allowance in ms, u32.
+ * A cost is tokens times price by the million tokens, input and output, rounded up to whole microunits and at most 2^64 - 1: rounding 0, as with 30
+ * bytes, each of the two is rounded up apart and then they are added; rounding 1, they are added and the sum is rounded up once. One token each way at
+ * price 1 costs 2 apart, and 1 once.
+ * The allowance is how many milliseconds of a model's latency are free: the penalty is charged for those above it alone. 0, as with 30 and 31 bytes, is
+ * none. A request's latency limit is held against the full latency, whatever is free. With a penalty of 10 and an allowance of 200, latencies of 199,
+ * 200 and 201 cost 0, 0 and 10.
  * A request is 70 bytes: sequence u64, requested model u32, input tokens u32, output tokens u32, value i64, budget u64, risk, confidence,
  * minimum quality (u16 each), latency limit u32, required capabilities u64, allowed providers u64, required regions u64.
  * A bank is any number of models up to 65,535, of 47 bytes each: id u32, provider u16, quality u16, ceiling u16, enabled u8, latency u32,
@@ -37,7 +41,7 @@
  * THE CHOICE. Where nothing stops the request (100, 101), a model that fails no gate and costs no more than the budget has a utility:
  *   utility = quality term - risk term - cost - latency term, exact, then held within i64
  *   quality term = V * confidence * quality / 10^8, risk term = V * risk * multiplier / 10^8, both rounded down, with V the value, or 0 if below 0
- *   latency term = latency * penalty
+ *   latency term = (latency - allowance) * penalty, 0 where the latency is not above the allowance
  * One above 0 is eligible. Of these the highest utility is chosen; of equal ones the lower cost, then the higher quality, the lower id, the earlier
  * place. The second by that order is the counterfactual model.
  * Repeated ids. A decision ranks every record by itself, so ids may repeat. Both boundary calls (volankizo_what_would_win, _decision_margin) vary the
@@ -46,12 +50,14 @@
  * them (12).
  *
  * FORMS. A form is a row of fields. A field is a tag u8, the length of its body u16, and the body: the 30 bytes of a policy under tag 1; a bank of at
- * most 1,394 records under tag 2; a request under tag 3; one byte, 1, under tag 4, for a policy that rounds once. A stored form is tag 1, then tag
- * 2, then tag 4 where the policy rounds once and nothing where it rounds apart; a request form is tag 3 alone.
+ * most 1,394 records under tag 2; a request under tag 3; one byte, 1, under tag 4, for a policy that rounds once; four bytes, an allowance above 0,
+ * under tag 5. A stored form is tag 1, then tag 2, then tag 4 where the policy rounds once and nothing where it rounds apart, then tag 5 where it has
+ * an allowance and nothing where it has none; a request form is tag 3 alone.
  * A form is read field by field, and the first fault comes back: no byte where a field is due, 21; a cut tag or length, 20; another tag, 21;
- * a length that the tag does not have, 22; a cut body, 20; another body of tag 4 than 1, 23; and after the last field any byte, 21. A byte 4 after
- * the bank begins tag 4, and without one the policy rounds apart. So of a stored form 01 1f 00 09 is 22, 09 1e 00 00 is 21, 01 1e 00 is 20; and after
- * its bank 04 is 20, 05 is 21, 04 02 00 is 22, 04 01 00 00 is 23, and 04 01 00 01 twice is 21.
+ * a length that the tag does not have, 22; a cut body, 20; another body of tag 4 than 1, 23; a body of tag 5 that is 0, 25; and after the last field
+ * any byte, 21. A byte 4 after the bank begins tag 4, and without one the policy rounds apart; a byte 5 there, or after tag 4, begins tag 5, and
+ * without one the policy has no allowance. So of a stored form 01 1f 00 09 is 22, 09 1e 00 00 is 21, 01 1e 00 is 20; and after its bank 04 is 20, 06 is
+ * 21, 04 02 00 is 22, 04 01 00 00 is 23, 05 04 00 00 00 00 00 is 25, 04 01 00 01 twice is 21, and so is 05 04 00 c8 00 00 00 before 04 01 00 01.
  *
  * LIVE BANKS. Models may be swapped one by one, with no transfer of the rest. The records of a bank are slots then: live where the id is not 0, free
  * where all 47 bytes are 0; id 0 with another byte set is refused with 34. A bank of zeros has free slots alone, and zeros after a bank's records are
@@ -66,9 +72,10 @@
  *
  * REFUSALS. Of several the first in the order given with each call comes back, of a form's the first in the order above; enum volankizo_refusal has
  * their numbers by name:
- *   22  a policy is neither 30 bytes long nor 31, a request not 70, the requests of a batch not 70 times their count, or that count is 2^32 or more, or
- *       a record that is offered not 47; in a form, a field has a length that its tag does not have
+ *   22  a policy is neither 30 bytes long nor 31 nor 35, a request not 70, the requests of a batch not 70 times their count, or that count is 2^32 or
+ *       more, or a record that is offered not 47; in a form, a field has a length that its tag does not have
  *   23  the 31st byte of a policy is neither 0 nor 1; in a form, the body of tag 4 is not 1
+ *   25  (of volankizo_read_stored and as a program's text alone) in a form, the body of tag 5 is 0; a policy that is lent says none by 0
  *    1  the bank's length is no multiple of 47
  *    2  the bank has more than 65,535 records
  *   34  (of the calls volankizo_live_.. alone) a slot has id 0 and another byte set
@@ -117,14 +124,15 @@ extern "C" {
 #endif
 
 #define VOLANKIZO_VERSION_MAJOR 0
-#define VOLANKIZO_VERSION_MINOR 4
+#define VOLANKIZO_VERSION_MINOR 5
 #define VOLANKIZO_VERSION_PATCH 0
 #define VOLANKIZO_VERSION (VOLANKIZO_VERSION_MAJOR * 1000000 + VOLANKIZO_VERSION_MINOR * 1000 + VOLANKIZO_VERSION_PATCH)
 
 /* ---- Sizes in bytes: of what is lent, of what is written, and of a form's parts. */
 #define VOLANKIZO_RECORD_BYTES 47
 #define VOLANKIZO_POLICY_BYTES 30
-#define VOLANKIZO_LONGEST_POLICY_BYTES 31
+#define VOLANKIZO_ROUNDED_POLICY_BYTES 31
+#define VOLANKIZO_LONGEST_POLICY_BYTES 35
 #define VOLANKIZO_REQUEST_BYTES 70
 #define VOLANKIZO_DECISION_BYTES 83
 #define VOLANKIZO_UNCOUNTED_BYTES 65
@@ -138,13 +146,15 @@ extern "C" {
 #define VOLANKIZO_EDIT_BYTES 2
 #define VOLANKIZO_FIELD_HEADER_BYTES 3
 #define VOLANKIZO_ROUNDING_FIELD_BYTES 4
-#define VOLANKIZO_STORED_POLICY_BYTES 39
+#define VOLANKIZO_ALLOWANCE_FIELD_BYTES 7
+#define VOLANKIZO_STORED_POLICY_BYTES 43
 #define VOLANKIZO_REQUEST_FORM_BYTES 73
 #define VOLANKIZO_UNIT_TEXT_BYTES 848
 #define VOLANKIZO_ASK_TEXT_BYTES 678
 #define VOLANKIZO_ASK_WORDS_BYTES 1208
 
-/* The bytes of a stored form with a bank of so many bytes, where the policy rounds apart; VOLANKIZO_ROUNDING_FIELD_BYTES more where it rounds once. */
+/* The bytes of a stored form with a bank of so many bytes, where the policy rounds apart and has no allowance; VOLANKIZO_ROUNDING_FIELD_BYTES more
+ * where it rounds once, and VOLANKIZO_ALLOWANCE_FIELD_BYTES more where it has an allowance. */
 #define VOLANKIZO_STORED_FORM_BYTES(bank_len) ((uint64_t)(bank_len) + 36)
 
 /* ---- Limits (which holds where: above), and numbers that stand for none or all. */
@@ -155,6 +165,7 @@ extern "C" {
 #define VOLANKIZO_NO_PLACE 65535
 #define VOLANKIZO_NO_NEXT UINT64_MAX
 #define VOLANKIZO_ALL_PROVIDERS UINT64_MAX
+#define VOLANKIZO_NO_ALLOWANCE 0
 
 /* The 31st byte of a policy. */
 #define VOLANKIZO_ROUNDS_APART 0
@@ -168,6 +179,7 @@ extern "C" {
 #define VOLANKIZO_POLICY_RISK_MULTIPLIER_AT 20
 #define VOLANKIZO_POLICY_LATENCY_PENALTY_AT 22
 #define VOLANKIZO_POLICY_ROUNDING_AT 30
+#define VOLANKIZO_POLICY_LATENCY_ALLOWANCE_AT 31
 
 /* A request's. */
 #define VOLANKIZO_REQUEST_SEQUENCE_AT 0
@@ -250,7 +262,7 @@ extern "C" {
 
 /* Those of what volankizo_read_stored writes to `out`, of a text, and of a form's field. */
 #define VOLANKIZO_STORED_POLICY_AT 0
-#define VOLANKIZO_STORED_BANK_LENGTH_AT 31
+#define VOLANKIZO_STORED_BANK_LENGTH_AT 35
 #define VOLANKIZO_TEXT_LENGTH_AT 0
 #define VOLANKIZO_TEXT_AT 8
 #define VOLANKIZO_FIELD_TAG_AT 0
@@ -332,6 +344,7 @@ enum volankizo_refusal {
     VOLANKIZO_REFUSAL_WRONG_TAG = 21,
     VOLANKIZO_REFUSAL_WRONG_LENGTH = 22,
     VOLANKIZO_REFUSAL_UNKNOWN_ROUNDING = 23,
+    VOLANKIZO_REFUSAL_ZERO_ALLOWANCE = 25,
     VOLANKIZO_REFUSAL_EPOCH_SPENT = 27,
     VOLANKIZO_REFUSAL_NO_FREE_SLOT = 28,
     VOLANKIZO_REFUSAL_SLOT_NOT_CLEAR = 34
@@ -418,14 +431,14 @@ uint64_t volankizo_decision_margin(const uint8_t *policy, uint64_t policy_len, c
 /* Where the record at a place of a bank begins: 8 bytes, u64, its offset in the bank; the record is the 47 bytes there. Refusals: 1, 2, 4, 8. */
 uint64_t volankizo_record_at(const uint8_t *bank, uint64_t bank_len, uint64_t place, uint8_t *out, uint64_t out_len);
 
-/* Writes the stored form of a policy with its bank: 36 bytes more than the bank has, and 40 where the policy rounds once.
- * Refusals: 22, 23, 1, 2, 18, 4. */
+/* Writes the stored form of a policy with its bank: 36 bytes more than the bank has, 4 more where the policy rounds once, and 7 more where it has an
+ * allowance. Refusals: 22, 23, 1, 2, 18, 4. */
 uint64_t volankizo_write_stored(const uint8_t *policy, uint64_t policy_len, const uint8_t *bank, uint64_t bank_len, uint8_t *out,
                                 uint64_t out_len);
 
-/* Reads a stored form. The models' bytes go to the start of `bank`, whose other bytes stay; `out`: 39 bytes, the policy in 31 bytes at 0, the
- * length of the models' bytes u64 at 31. Neither buffer is written before the form's end was seen and both have room; nothing is validated or put
- * in order. Refusals: those of a form (20 to 23, in the order told above), then 4 (of either buffer). */
+/* Reads a stored form. The models' bytes go to the start of `bank`, whose other bytes stay; `out`: 43 bytes, the policy in 35 bytes at 0, the
+ * length of the models' bytes u64 at 35. Neither buffer is written before the form's end was seen and both have room; nothing is validated or put
+ * in order. Refusals: those of a form (20 to 23 and 25, in the order told above), then 4 (of either buffer). */
 uint64_t volankizo_read_stored(const uint8_t *form, uint64_t form_len, uint8_t *bank, uint64_t bank_len, uint8_t *out, uint64_t out_len);
 
 /* Writes the request form: 73 bytes. Refusals: 22, 4. */
@@ -434,12 +447,12 @@ uint64_t volankizo_write_request(const uint8_t *request, uint64_t request_len, u
 /* Reads a request form: 70 bytes, the request. Refusals: those of a form (20, 21, 22, in the order told above), then 4. */
 uint64_t volankizo_read_request(const uint8_t *form, uint64_t form_len, uint8_t *out, uint64_t out_len);
 
-/* What the unit's program prints for an input of tags 1, 2, 4 where the policy rounds once, and 3: the text's length in bytes u64 at 0, the text
- * from 8 on, in ASCII with a newline after each line and no zero after the last. 848 bytes always suffice. The lines: `decision` and its numbers,
- * `rejected` and the nine counts, both in the order above; for each lever of the margin `lever`, its number, today's value, the boundary, and the
- * cost or `-`. An input that the program refuses is answered too: its text is `refused` and the number, by a form's faults (one or two bytes
- * after the bank, or after a whole tag 4, are 20 whatever they are, since a request is due), then 19, then as by volankizo_validate, then 3.
- * Refusals: 4. */
+/* What the unit's program prints for an input of tags 1, 2, 4 where the policy rounds once, 5 where it has an allowance, and 3: the text's length in
+ * bytes u64 at 0, the text from 8 on, in ASCII with a newline after each line and no zero after the last. 848 bytes always suffice. The lines:
+ * `decision` and its numbers, `rejected` and the nine counts, both in the order above; for each lever of the margin `lever`, its number, today's value,
+ * the boundary, and the cost or `-`. An input that the program refuses is answered too: its text is `refused` and the number, by a form's faults (one
+ * or two bytes after the bank, or after a whole tag 4 or 5, are 20 whatever they are, since a request is due), then 19, then as by volankizo_validate,
+ * then 3. Refusals: 4. */
 uint64_t volankizo_unit_text(const uint8_t *input, uint64_t input_len, uint8_t *out, uint64_t out_len);
 
 /* The same for what would make a model win, as `ask ID` prints it: `decision`, a `lever` for each that wins by itself, `passes` and their

@@ -6,10 +6,10 @@
 #include "volankizo.h"
 #include <string.h>
 
-enum { STACK = 1 << 14, PAINT = 0xa5, MOST = 1394, ROOM = 47 * MOST + 256, REQUESTS = 10 };
+enum { STACK = 1 << 14, PAINT = 0xa5, MOST = 1394, ROOM = 47 * MOST + 256, REQUESTS = 10, ALLOWANCE = 1 };
 static uint8_t stack[STACK] __attribute__((aligned(8)));
-static uint8_t policy[30], request[70], requests[70 * REQUESTS], bank[47 * MOST], record[47], list[72 * MOST], form[ROOM], out[ROOM];
-static uint64_t policy_len = 30, bank_len, list_len, form_len;
+static uint8_t policy[35], request[70], requests[70 * REQUESTS], bank[47 * MOST], record[47], list[72 * MOST], form[ROOM], out[ROOM];
+static uint64_t policy_len = sizeof policy, bank_len, list_len, form_len;
 static uint32_t id;
 
 /* call_on(top, function, words, count): calls with the stack pointer at `top`, less the words that don't go over in four registers. */
@@ -41,13 +41,13 @@ static void put(uint8_t *at, uint64_t value, int bytes) {
 
 static void model(uint8_t *at, uint32_t number) {
   memset(at, 0xff, 47);
-  put(at, number, 4), put(at + 4, 63, 2), put(at + 6, 1, 2), put(at + 8, 10000, 2), put(at + 10, 1, 1), put(at + 11, 0, 4);
+  put(at, number, 4), put(at + 4, 63, 2), put(at + 6, 1, 2), put(at + 8, 10000, 2), put(at + 10, 1, 1), put(at + 11, ALLOWANCE, 4);
   put(at + 31, (1ull << 40) - 1, 8), put(at + 39, 1ull << 40, 8);
 }
 
 static void settle(uint64_t penalty) {
   put(policy, ~0ull, 8), put(policy + 8, ~0ull - 1, 8), put(policy + 16, 10000, 2), put(policy + 18, 0, 2), put(policy + 20, 0, 2);
-  put(policy + 22, penalty, 8);
+  put(policy + 22, penalty, 8), put(policy + 30, 0, 1), put(policy + 31, ALLOWANCE, 4);
   memset(request, 0xff, 70);
   put(request + 12, 1000000, 4), put(request + 16, 1000000, 4), put(request + 20, 2000000000000000000ull, 8);
   put(request + 36, 1, 2), put(request + 38, 10000, 2), put(request + 40, 0, 2);
@@ -65,10 +65,11 @@ static void chosen_late(uint32_t n) {
   id = 3;
 }
 
-static void last_chosen(uint32_t n, uint16_t most) {
+static void last_chosen(uint32_t n, uint16_t most, uint16_t others) {
   uint8_t *last = bank + 47 * (n - 1);
   settle(4000000000ull);
-  put(last + 6, most, 2), put(last + 8, most, 2), put(last + 39, 20501000000000000ull, 8);
+  for (uint32_t i = 0; i + 1 < n; i++) put(bank + 47 * i + 6, others, 2);
+  put(last + 6, most, 2), put(last + 8, most, 2), put(last + 11, 0, 4), put(last + 39, 20501000000000000ull, 8);
 }
 
 static void last_outranked(uint32_t n) {
@@ -82,9 +83,10 @@ static void rising_but_last(uint32_t n) {
   for (uint32_t i = 0; i < n; i++) put(bank + 47 * i, i + 1 == n ? 1 : i + 2, 4), bank[47 * i + 10] = 0;
 }
 
+/* Beside the bank: the fields of tags 1, 2, of tag 4 where the policy rounds once, and of tag 5. */
 static void make_form(int with_request) {
   if (volankizo_write_stored(policy, policy_len, bank, bank_len, form, sizeof form)) leave();
-  form_len = bank_len + 36;
+  form_len = bank_len + 33 + 3 + (policy[30] ? 4 : 0) + 7;
   if (with_request && volankizo_write_request(request, 70, form + form_len, 73)) leave();
   if (with_request) form_len += 73;
 }
@@ -116,7 +118,7 @@ static void *prepared(const char *name, uint32_t n) {
 #define DECIDES(x) if (IS(x)) return three(), answer(), CALL(x)
 #define ASKS(x) if (IS(x)) return three(), word(id), answer(), CALL(x)
 #define LISTS(x) if (IS(x)) return three(), slice(list, list_len), answer(), CALL(x)
-#define BOUNDS(x) if (IS(x)) return last_chosen(n, 65535), three(), answer(), CALL(x)
+#define BOUNDS(x) if (IS(x)) return last_chosen(n, 65535, 32767), three(), answer(), CALL(x)
 #define WINS(x) if (IS(x)) return last_outranked(n), three(), word(id), answer(), CALL(x)
 #define PRINTS(x) if (IS(x)) return last_outranked(n), make_form(1), slice(form, form_len), word(id), answer(), CALL(x)
 #define BATCHES(x) if (IS(x)) return row(REQUESTS), CALL(x)
@@ -131,7 +133,7 @@ static void *prepared(const char *name, uint32_t n) {
   if (IS(ask_words)) chosen_late(n);
   PRINTS(ask_words);
   if (IS(version)) return CALL(version);
-  if (IS(unit_text)) return last_chosen(n, 10000), make_form(1), slice(form, form_len), answer(), CALL(unit_text);
+  if (IS(unit_text)) return last_chosen(n, 10000, 3000), make_form(1), slice(form, form_len), answer(), CALL(unit_text);
   if (IS(find)) return slice(bank, bank_len), word(~0u), answer(), CALL(find);
   if (IS(live_find)) return all_free(0), slice(bank, bank_len), word(~0u), answer(), CALL(live_find);
   if (IS(live_utility_for_model)) return all_free(n), three(), word(id), answer(), CALL(live_utility_for_model);
@@ -140,8 +142,8 @@ static void *prepared(const char *name, uint32_t n) {
   if (IS(validate)) return rising_but_last(n), slice(policy, policy_len), slice(bank, bank_len), CALL(validate);
   if (IS(trust)) return make_bank(n, 1), slice(policy, policy_len), slice(bank, bank_len), CALL(trust);
   if (IS(record_at)) return slice(bank, bank_len), number(n), answer(), CALL(record_at);
-  if (IS(write_stored)) return slice(policy, policy_len), slice(bank, bank_len), answer(), CALL(write_stored);
-  if (IS(read_stored)) return make_form(0), slice(form, form_len), slice(bank, bank_len), answer(), CALL(read_stored);
+  if (IS(write_stored)) return policy[30] = 1, slice(policy, policy_len), slice(bank, bank_len), answer(), CALL(write_stored);
+  if (IS(read_stored)) return policy[30] = 1, make_form(0), slice(form, form_len), slice(bank, bank_len), answer(), CALL(read_stored);
   if (IS(write_request)) return slice(request, 70), answer(), CALL(write_request);
   if (IS(read_request)) return volankizo_write_request(request, 70, form, 73), slice(form, 73), answer(), CALL(read_request);
   if (IS(live_remove)) return all_free(0), slice(policy, policy_len), slice(bank, bank_len), word(~0u), answer(), CALL(live_remove);

@@ -94,6 +94,7 @@ impl Mix {
             risk_penalty_multiplier_bps: 10_000,
             latency_penalty_microunits_per_ms: 50 * self.scale(),
             rounding: Rounding::Apart,
+            latency_allowance_ms: 0,
         }
     }
 

@@ -42,9 +42,10 @@ pub fn each(only: &str, checked: Checked, visit: &mut dyn FnMut(Row)) {
     let some = [Mix::Mixed, Mix::MostlyEligible, Mix::Spread, Mix::Beyond];
     let priced = [Mix::Mixed, Mix::MostlyEligible, Mix::Dear, Mix::Beyond];
     type Asking = fn(Asked, &mut dyn FnMut(Row));
-    let asking: [(&str, Asking, &[usize], &[Mix]); 5] = [
+    let asking: [(&str, Asking, &[usize], &[Mix]); 6] = [
         ("prescribe", prescribe, &SIZES, &Mix::ALL),
         (ONCE, prescribe, &SIZES[..2], &priced),
+        (FREE, prescribe, &SIZES[..2], &priced[..2]),
         ("margin", margin, &SIZES, &some),
         ("what would win", win, &SIZES, &some),
         ("explain", explain, &[UNIT], &some),
@@ -66,6 +67,9 @@ pub fn each(only: &str, checked: Checked, visit: &mut dyn FnMut(Row)) {
 
 /// `prescribe` under a policy that rounds once, beside the same models and requests under one that rounds apart. The Rust's sides round apart.
 const ONCE: &str = "prescribe once";
+/// The same under a policy with an allowance, which some of the models' latencies are above. The Rust's sides charge every millisecond.
+const FREE: &str = "prescribe free";
+const FREE_MS: u32 = 200;
 
 /// A short list, the unit's, and the longest.
 pub const SIZES: [usize; 3] = [22, UNIT, 65_535];
@@ -75,7 +79,7 @@ pub const UNIT: usize = 900;
 fn requests(call: &str, records: usize) -> usize {
     match (call.strip_prefix("live ").unwrap_or(call), records) {
         ("explain", _) => 4,
-        (_, 22) | ("prescribe" | "utility" | ONCE, UNIT) => 16,
+        (_, 22) | ("prescribe" | "utility" | ONCE | FREE, UNIT) => 16,
         ("prescribe", _) | (_, UNIT) => 2,
         _ => 1,
     }
@@ -95,8 +99,12 @@ pub struct Asked {
 impl Asked {
     pub fn of(call: &'static str, mix: Mix, records: usize, checked: Checked) -> Self {
         let mut settings = mix.settings(records, requests(call, records));
-        if call == ONCE {
-            settings.iter_mut().for_each(|setting| setting.policy.rounding = Rounding::Once);
+        for policy in settings.iter_mut().map(|setting| &mut setting.policy) {
+            match call {
+                ONCE => policy.rounding = Rounding::Once,
+                FREE => policy.latency_allowance_ms = FREE_MS,
+                _ => {}
+            }
         }
         let cases = settings.iter().map(|setting| Case { bank: Vec::new(), ..setting.case(0) }).collect();
         let (snapshot, bank) = (settings[0].snapshot(), bank_bytes(&settings[0].models));

@@ -84,7 +84,7 @@ fn deepest(call: &Call, settings: &[Setting]) -> usize {
 /// Every mix, so that the ways by two limbs are among them. Each as it is, in disorder, so that the ordering is among them, and then with the
 /// highest latency for every model and no limit on it, which is the widest range of a search. Each of these once more with providers that
 /// a bank may have, since one that doesn't validate prints nothing but its refusal. All of these with every third slot free, which calls on every
-/// record take for a model that is off. And all of them with a policy that rounds once.
+/// record take for a model that is off. All of them with a policy that rounds once. And all of these with an allowance.
 fn settings() -> Vec<Setting> {
     let mut all: Vec<Setting> = Mix::ALL.iter().flat_map(|mix| mix.settings(22, 4)).collect();
     for mut setting in all.clone() {
@@ -105,6 +105,10 @@ fn settings() -> Vec<Setting> {
     }
     for mut setting in all.clone() {
         setting.policy.rounding = Rounding::Once;
+        all.push(setting);
+    }
+    for mut setting in all.clone() {
+        setting.policy.latency_allowance_ms = 200;
         all.push(setting);
     }
     all

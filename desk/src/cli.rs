@@ -100,7 +100,8 @@ policy.csv, one line:
   minimum_confidence_bps | minimum_confidence_percent
   risk_multiplier_bps | risk_multiplier_percent
   latency_penalty_per_ms | latency_penalty_microunits_per_ms
-  and, where wanted: rounding (apart or once), currency (its name, to be shown), policy_epoch, catalogue_epoch
+  and, where wanted: latency_allowance_ms (so many of a latency's first milliseconds are free; 0 is none),
+  rounding (apart or once), currency (its name, to be shown), policy_epoch, catalogue_epoch
 
 requests.csv, a line for each request:
   input_tokens

@@ -39,10 +39,11 @@ fn model(named: &NamedModel, names: &Names, mark: char) -> Vec<String> {
     ]
 }
 
-/// A policy; no form holds what its currency is called, so that cell stays empty.
+/// A policy; no form holds what its currency is called, so that cell stays empty. One without an allowance has no column for it, as its form has no field.
 pub fn policy(policy: &PolicySnapshot, mark: char) -> Page {
-    let mut page = headed(&policy::FIELDS);
-    page.push(vec![
+    let allowance = policy::allowance(policy);
+    let mut page = headed(&policy::FIELDS[..policy::FIELDS.len() - usize::from(allowance.is_none())]);
+    let mut cells = vec![
         policy.hard_risk_limit_bps.to_string(),
         policy.minimum_confidence_bps.to_string(),
         policy.risk_penalty_multiplier_bps.to_string(),
@@ -55,7 +56,9 @@ pub fn policy(policy: &PolicySnapshot, mark: char) -> Page {
         String::new(),
         policy.policy_epoch.to_string(),
         policy.catalog_epoch.to_string(),
-    ]);
+    ];
+    cells.extend(allowance.map(|free| free.to_string()));
+    page.push(cells);
     page
 }
 

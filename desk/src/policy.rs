@@ -24,8 +24,19 @@ static ROUNDING: Field = Field::text(&[("rounding", Unit::Text)]).optional();
 static CURRENCY: Field = Field::text(&[("currency", Unit::Text)]).optional();
 static POLICY_EPOCH: Field = Field::number(&[("policy_epoch", Unit::Whole)], u64::MAX).optional();
 static CATALOGUE_EPOCH: Field = Field::number(&[("catalogue_epoch", Unit::Whole)], u64::MAX).optional();
-pub static FIELDS: [&Field; 8] =
-    [&HARD_LIMIT, &CONFIDENCE, &MULTIPLIER, &LATENCY_PENALTY, &ROUNDING, &CURRENCY, &POLICY_EPOCH, &CATALOGUE_EPOCH];
+static LATENCY_ALLOWANCE: Field = Field::number(&[("latency_allowance_ms", Unit::Ms)], u32::MAX as u64).optional();
+/// The allowance stands last: only a policy that has one is written with its column.
+pub static FIELDS: [&Field; 9] = [
+    &HARD_LIMIT,
+    &CONFIDENCE,
+    &MULTIPLIER,
+    &LATENCY_PENALTY,
+    &ROUNDING,
+    &CURRENCY,
+    &POLICY_EPOCH,
+    &CATALOGUE_EPOCH,
+    &LATENCY_ALLOWANCE,
+];
 
 /// A policy, and what its money is called.
 #[derive(Clone, Debug, PartialEq, Eq)]
@@ -52,6 +63,11 @@ impl NamedPolicy {
     }
 }
 
+/// How many of a latency's milliseconds are free, where a policy has an allowance.
+pub fn allowance(policy: &PolicySnapshot) -> Option<u32> {
+    Some(policy.latency_allowance_ms).filter(|free| *free != 0)
+}
+
 fn taken(row: &Row, warnings: &mut Warnings) -> Result<NamedPolicy, Fault> {
     let policy = PolicySnapshot {
         policy_epoch: row.number(&POLICY_EPOCH, warnings)?.unwrap_or(0),
@@ -61,6 +77,7 @@ fn taken(row: &Row, warnings: &mut Warnings) -> Result<NamedPolicy, Fault> {
         risk_penalty_multiplier_bps: row.needed(&MULTIPLIER, warnings)?,
         latency_penalty_microunits_per_ms: row.needed(&LATENCY_PENALTY, warnings)?,
         rounding: rounding(row)?,
+        latency_allowance_ms: row.number(&LATENCY_ALLOWANCE, warnings)?.unwrap_or(0),
     };
     Ok(NamedPolicy { policy, currency: row.cell(&CURRENCY)?.map(|cell| cell.text.to_owned()) })
 }

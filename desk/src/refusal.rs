@@ -60,6 +60,9 @@ fn sentence(refusal: Refusal, models: &ModelList) -> String {
         }
         Refusal::WrongLength => "a field has a length that isn't its own".to_owned(),
         Refusal::UnknownRounding => "the policy rounds neither apart nor once".to_owned(),
+        Refusal::ZeroAllowance => {
+            "the policy's latency allowance is 0; a policy that has none has no field for it".to_owned()
+        }
         Refusal::EpochSpent => "the catalogue epoch can't be raised".to_owned(),
         Refusal::NoFreeSlot => "no slot is free".to_owned(),
         Refusal::SlotNotClear => "a free slot has a byte set".to_owned(),

@@ -2,6 +2,7 @@
 use crate::asked::{lever, scaled_price, Key};
 use crate::names::{spoken, Register};
 use crate::open::Desk;
+use crate::policy::allowance;
 use volankizo::{
     CandidateVerdict, GateKind, KernelAction, KernelDecision, KernelInput, KernelReason, Lever, Requirement,
     UtilityTerms, PPM,
@@ -77,7 +78,10 @@ impl Speech<'_> {
         match gate {
             GateKind::Disabled => "it is switched off".to_owned(),
             GateKind::Quality => format!("its quality of {measured} basis points is below the {limit} required"),
-            GateKind::Latency => format!("its latency of {measured} ms is above the limit of {limit} ms"),
+            GateKind::Latency => {
+                let free = self.free(measured).map_or(String::new(), |free| format!(", though {free}"));
+                format!("its latency of {measured} ms is above the limit of {limit} ms{free}")
+            }
             GateKind::Capability => format!(
                 "its capabilities, {}, lack some of those required, {}",
                 mask(measured, &names.capabilities),
@@ -160,7 +164,34 @@ impl Speech<'_> {
         if levers.is_empty() {
             return vec!["Nor would its quality, latency or risk ceiling alone.".to_owned()];
         }
-        levers.iter().filter_map(other_lever).collect()
+        levers.iter().filter_map(|told| self.other_lever(told)).collect()
+    }
+
+    fn other_lever(&self, told: &Requirement) -> Option<String> {
+        let (current, boundary) = (told.current, told.boundary);
+        Some(match told.lever {
+            Lever::QualityBps => {
+                format!("Quality alone: {current} basis points today; it must rise to at least {boundary}.")
+            }
+            Lever::P95LatencyMs => {
+                let free = self.free(current).map_or(String::new(), |free| format!(" ({free})"));
+                format!("Latency alone: {current} ms today{free}; it must fall to at most {boundary} ms.")
+            }
+            Lever::RiskCeilingBps => {
+                format!("Risk ceiling alone: {current} basis points today; it must rise to at least {boundary}.")
+            }
+            Lever::PriceScalePpm | Lever::Enabled => return None,
+        })
+    }
+
+    /// How much of a latency costs nothing; none where the policy has no allowance, of which `ask` has no word either.
+    fn free(&self, latency: u64) -> Option<String> {
+        let free = allowance(&self.desk.policy.policy).filter(|_| !self.numbers)?;
+        Some(match latency <= u64::from(free) {
+            true => "all of it is free".to_owned(),
+            false if free == 1 => "1 ms of it is free".to_owned(),
+            false => format!("{free} ms of it are free"),
+        })
     }
 
     fn model(&self, id: u32) -> String {
@@ -231,18 +262,4 @@ impl Speech<'_> {
         };
         format!("; the foremost reason is {why} (reason {number})")
     }
-}
-
-fn other_lever(told: &Requirement) -> Option<String> {
-    let (current, boundary) = (told.current, told.boundary);
-    Some(match told.lever {
-        Lever::QualityBps => {
-            format!("Quality alone: {current} basis points today; it must rise to at least {boundary}.")
-        }
-        Lever::P95LatencyMs => format!("Latency alone: {current} ms today; it must fall to at most {boundary} ms."),
-        Lever::RiskCeilingBps => {
-            format!("Risk ceiling alone: {current} basis points today; it must rise to at least {boundary}.")
-        }
-        Lever::PriceScalePpm | Lever::Enabled => return None,
-    })
 }

@@ -6,6 +6,7 @@ use crate::fault::{Trouble, Warnings};
 use crate::layout::aligned;
 use crate::open::Desk;
 use crate::output;
+use crate::policy::allowance;
 use crate::speech::Speech;
 use volankizo::{
     CandidateVerdict, Explanation, KernelInput, KernelModel, Lever, Requirement, MAX_PRICE_SCALE_PPM, PPM,
@@ -167,11 +168,12 @@ fn text(desk: &Desk, input: &KernelInput, told: &Explanation, lines: &[Line]) ->
     rows.extend(lines.iter().map(|line| shown(desk, line)));
     let unlisted = speech.unlisted(input).map_or(String::new(), |line| line + "\n");
     format!(
-        "Request {} of {}.\n{}\n{unlisted}\n{}\n{EXPLAINED}",
+        "Request {} of {}.\n{}\n{unlisted}\n{}\n{EXPLAINED}{}",
         input.request_sequence,
         desk.requests.file,
         speech.choice(input, &told.decision),
-        aligned(&rows, 1..8)
+        aligned(&rows, 1..8),
+        free(desk)
     )
 }
 
@@ -180,6 +182,14 @@ Price to latency: where the model would be the choice, or stays it, by that chan
 then, searched in steps of a millionth of today's, in currency per million tokens), a quality of so many basis points or more, a latency of so
 many ms or less. A dash: nowhere; any: everywhere; to 1000x: up to 1000 times today's prices, beyond which nothing is searched.
 ";
+
+/// What a policy with an allowance leaves free; of any other nothing is said.
+fn free(desk: &Desk) -> String {
+    let told = |free: u32| {
+        format!("A latency is told in full. Its first {free} ms are free: only those above them are charged, but a request's limit counts all.\n")
+    };
+    allowance(&desk.policy.policy).map_or(String::new(), told)
+}
 
 fn shown(desk: &Desk, line: &Line) -> Vec<String> {
     let money = &desk.money;
@@ -247,9 +257,16 @@ const COLUMNS: [&str; 12] = [
     "wins_at_latency_ms",
 ];
 
+/// The last column, of a policy with an allowance alone: that allowance, the same in every line.
+const ALLOWANCE_COLUMN: &str = "latency_allowance_ms";
+
 fn page(desk: &Desk, lines: &[Line]) -> Page {
-    let mut page = Page::new(&COLUMNS);
-    lines.iter().for_each(|line| page.push(record(desk, line)));
+    let allowance = allowance(&desk.policy.policy);
+    let columns: Vec<&str> = COLUMNS.into_iter().chain(allowance.map(|_| ALLOWANCE_COLUMN)).collect();
+    let mut page = Page::new(&columns);
+    for line in lines {
+        page.push(record(desk, line).into_iter().chain(allowance.map(|free| free.to_string())).collect());
+    }
     page
 }
 

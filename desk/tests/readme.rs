@@ -1,6 +1,6 @@
 //! The commands of the README, run as they are written, print what it shows; `..` stands for whatever is left out there.
 mod common;
-use common::{example_list, Folder};
+use common::{example_list, examples, Folder, FREE_POLICY};
 
 /// The commands behind `$ desk`, each with the lines under it.
 fn shown() -> Vec<(Vec<String>, Vec<String>)> {
@@ -59,6 +59,7 @@ fn commands_print_what_is_shown() {
     for file in ["models.csv", "policy.csv", "requests.csv"] {
         std::fs::rename(folder.path.join(file), folder.path.join("examples").join(file)).expect("moved");
     }
+    std::fs::copy(examples().join(FREE_POLICY), folder.path.join("examples").join(FREE_POLICY)).expect("copied");
     let shown = shown();
     assert!(shown.len() >= 4, "{} commands were found", shown.len());
     for (arguments, mut lines) in shown {

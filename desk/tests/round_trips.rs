@@ -1,6 +1,6 @@
 //! Files to bytes, back, and to bytes again: the same bytes, and the second files are the first ones as they would be written.
 mod common;
-use common::{example_list, many_models, Dice, Folder};
+use common::{example_list, example_list_200_ms_free, many_models, Dice, Folder};
 
 const FORMS: [&str; 10] = [
     "pack",
@@ -55,6 +55,7 @@ fn unpacked(folder: &Folder, named: bool) -> Folder {
 #[test]
 fn the_example_list() {
     comes_back(&example_list());
+    comes_back(&example_list_200_ms_free());
 }
 
 /// Names come back where they are told, and numbers stand for them where they aren't.
@@ -128,15 +129,16 @@ fn random_lists() {
     for seed in 0..12 {
         let mut dice = Dice::new(seed);
         let policy = format!(
-            "hard_risk_limit_bps,minimum_confidence_bps,risk_multiplier_bps,latency_penalty_microunits_per_ms,policy_epoch,catalogue_epoch,rounding\n\
-             {},{},{},{},{},{},{}\n",
+            "hard_risk_limit_bps,minimum_confidence_bps,risk_multiplier_bps,latency_penalty_microunits_per_ms,policy_epoch,catalogue_epoch,rounding,latency_allowance_ms\n\
+             {},{},{},{},{},{},{},{}\n",
             101 + dice.below(9_900),
             101 + dice.below(9_900),
             101 + dice.below(49_900),
             dice.any(),
             dice.any(),
             dice.any(),
-            ["apart", "once"][dice.below(2) as usize]
+            ["apart", "once"][dice.below(2) as usize],
+            [0, 1 + dice.below(u32::MAX.into())][dice.below(2) as usize]
         );
         let models = many_models(40 + dice.below(300) as usize, &mut dice);
         let requests = random_requests(1, &mut dice);

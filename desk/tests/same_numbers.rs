@@ -1,6 +1,6 @@
 //! A list of 20 models, through the programs `unit` and `ask` and through the desk: the same numbers.
 mod common;
-use common::{example_list, Folder};
+use common::{example_list, example_list_200_ms_free, Folder};
 use std::collections::HashMap;
 use std::io::Write;
 use std::path::PathBuf;
@@ -66,24 +66,30 @@ fn input(folder: &Folder, request: &str) -> Vec<u8> {
 
 const REQUESTS: [&str; 5] = ["1", "2", "3", "4", "5"];
 
+/// Every request of the list, under either policy.
+fn each_question(hold: impl Fn(&Folder, &str)) {
+    for folder in [example_list(), example_list_200_ms_free()] {
+        REQUESTS.iter().for_each(|request| hold(&folder, request));
+    }
+}
+
 #[test]
 fn the_choice_is_that_of_unit() {
-    let folder = example_list();
-    for request in REQUESTS {
-        let told = printed("unit", &[], &input(&folder, request));
-        let (decision, rows) = (&told[0], table(&folder, request));
+    each_question(|folder, request| {
+        let told = printed("unit", &[], &input(folder, request));
+        let (decision, rows) = (&told[0], table(folder, request));
         assert_eq!((decision[0].as_str(), decision[1].as_str(), rows.len()), ("decision", request, 20));
         let chosen: Vec<_> = rows.iter().filter(|row| row["verdict"] == "chosen").collect();
         if decision[2] == "3" {
             assert!(chosen.is_empty());
-            continue;
+            return;
         }
         let [row] = chosen[..] else { panic!("{} are chosen", chosen.len()) };
         assert_eq!(row["id"], decision[4]);
         assert_eq!(microunits(&row["cost_currency"]).to_string(), decision[6]);
         assert_eq!(microunits(&row["utility_currency"]).to_string(), decision[7]);
-        wins_at(row, &levers(&told), &prices(&folder), "any");
-    }
+        wins_at(row, &levers(&told), &prices(folder), "any");
+    });
 }
 
 /// Price, quality and latency of a row are the boundaries of the levers, or what is said where there is none.
@@ -112,17 +118,15 @@ fn wins_at(
 
 #[test]
 fn what_would_win_is_that_of_ask() {
-    let folder = example_list();
-    let prices = prices(&folder);
-    for request in REQUESTS {
-        let input = input(&folder, request);
-        for row in table(&folder, request).iter().filter(|row| row["verdict"] != "chosen") {
+    each_question(|folder, request| {
+        let (prices, input) = (prices(folder), input(folder, request));
+        for row in table(folder, request).iter().filter(|row| row["verdict"] != "chosen") {
             let told = levers(&printed("ask", &[&row["id"]], &input));
             wins_at(row, &told, &prices, "");
             assert_eq!(row["reason"].contains("switched on, it would be chosen"), told.contains_key("5"), "{row:?}");
-            why_says(&folder, request, row, &told);
+            why_says(folder, request, row, &told);
         }
-    }
+    });
 }
 
 /// The sentences about a model have the numbers of its levers, and no other lever's sentence.
@@ -156,10 +160,9 @@ fn why_says(folder: &Folder, request: &str, row: &HashMap<String, String>, lever
 /// Rejections are counted alike.
 #[test]
 fn counts_are_those_of_unit() {
-    let folder = example_list();
-    for request in REQUESTS {
-        let told = printed("unit", &[], &input(&folder, request));
-        let rows = table(&folder, request);
+    each_question(|folder, request| {
+        let told = printed("unit", &[], &input(folder, request));
+        let rows = table(folder, request);
         let count = |words: &str| rows.iter().filter(|row| row["reason"].contains(words)).count().to_string();
         let words = [
             "switched off;",
@@ -180,5 +183,5 @@ fn counts_are_those_of_unit() {
             told[1][1..].iter().map(|number| number.parse::<usize>().expect("a count")).sum::<usize>(),
             rejected
         );
-    }
+    });
 }

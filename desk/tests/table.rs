@@ -8,7 +8,7 @@ use volankizo::{decision_margin, what_would_win, CandidateVerdict, Lever, Requir
 #[test]
 fn levers_of_a_pair_are_those_of_the_list() {
     let (mut dice, mut chosen, mut levers) = (Dice::new(11), 0, 0);
-    for _ in 0..60 {
+    for _ in 0..80 {
         let (count, input) = (1 + dice.below(40) as usize, random_request(&mut dice));
         let desk = random_list(count, &mut dice);
         let told = desk.explain(input).expect("an explanation");
@@ -65,7 +65,13 @@ fn is_told(line: &Line, verdict: &CandidateVerdict, levers: &[Requirement], none
 /// At the settings that a table tells the model is the choice, and one step further it isn't.
 #[test]
 fn settings_are_exact() {
-    let mut dice = Dice::new(5);
+    let tried: usize = (5..11).map(settings_tried).sum();
+    assert!(tried > 120, "{tried} settings were tried");
+}
+
+/// How many settings a list by these dice has, each of which is tried.
+fn settings_tried(seed: u64) -> usize {
+    let mut dice = Dice::new(seed);
     let desk = random_list(80, &mut dice);
     let input = desk.requests.requests[0].input;
     let told = desk.explain(input).expect("an explanation");
@@ -103,7 +109,7 @@ fn settings_are_exact() {
             tried += 1;
         }
     }
-    assert!(tried > 20, "{tried} settings were tried");
+    tried
 }
 
 #[test]

@@ -11,7 +11,8 @@
 #include "volankizo.h"
 
 enum { MODELS = 2, BANK_BYTES = MODELS * VOLANKIZO_RECORD_BYTES, LIST_BYTES = MODELS * VOLANKIZO_EXPLANATION_BYTES };
-/* The policy of `write_input` rounds apart; one that rounds once takes VOLANKIZO_ROUNDING_FIELD_BYTES more. */
+/* The policy of `write_input` rounds apart and has no allowance; one that rounds once takes VOLANKIZO_ROUNDING_FIELD_BYTES more, and one with an
+ * allowance VOLANKIZO_ALLOWANCE_FIELD_BYTES. */
 enum { STORED_BYTES = VOLANKIZO_STORED_FORM_BYTES(BANK_BYTES), INPUT_BYTES = STORED_BYTES + VOLANKIZO_REQUEST_FORM_BYTES };
 
 /* Writes a number, lowest byte first, and hands back where the next one goes. */
@@ -48,8 +49,8 @@ static void must(const char *call, uint64_t word)
     exit(1);
 }
 
-/* How it rounds may be left out: 30 bytes are a policy that rounds apart. */
-static void put_policy(uint8_t policy[VOLANKIZO_LONGEST_POLICY_BYTES], uint8_t rounding)
+/* The allowance may be left out, and how it rounds with it: 30 bytes are a policy that rounds apart, with no millisecond free. */
+static void put_policy(uint8_t policy[VOLANKIZO_LONGEST_POLICY_BYTES], uint8_t rounding, uint32_t allowance)
 {
     uint8_t *at = put(policy, 8, 7); /* policy epoch */
     at = put(at, 8, 3);              /* catalogue epoch */
@@ -57,7 +58,8 @@ static void put_policy(uint8_t policy[VOLANKIZO_LONGEST_POLICY_BYTES], uint8_t r
     at = put(at, 2, 2000);           /* minimum confidence */
     at = put(at, 2, 10000);          /* risk multiplier */
     at = put(at, 8, 10);             /* latency penalty per ms */
-    put(at, 1, rounding);
+    at = put(at, 1, rounding);
+    put(at, 4, allowance);
 }
 
 static uint8_t *put_model(uint8_t *at, uint32_t id, uint16_t provider, uint16_t quality, uint32_t latency, uint64_t capabilities,
@@ -150,12 +152,13 @@ static void write_input(const char *path, const uint8_t *policy, const uint8_t *
 
 int main(int argc, char **argv)
 {
-    uint8_t policy[VOLANKIZO_LONGEST_POLICY_BYTES], once[VOLANKIZO_LONGEST_POLICY_BYTES];
+    uint8_t policy[VOLANKIZO_LONGEST_POLICY_BYTES], once[VOLANKIZO_LONGEST_POLICY_BYTES], free_200[VOLANKIZO_LONGEST_POLICY_BYTES];
     uint8_t bank[BANK_BYTES], request[VOLANKIZO_REQUEST_BYTES];
     uint8_t decision[VOLANKIZO_DECISION_BYTES], list[LIST_BYTES], boundary[VOLANKIZO_BOUNDARY_BYTES];
 
-    put_policy(policy, VOLANKIZO_ROUNDS_APART);
-    put_policy(once, VOLANKIZO_ROUNDS_ONCE);
+    put_policy(policy, VOLANKIZO_ROUNDS_APART, VOLANKIZO_NO_ALLOWANCE);
+    put_policy(once, VOLANKIZO_ROUNDS_ONCE, VOLANKIZO_NO_ALLOWANCE);
+    put_policy(free_200, VOLANKIZO_ROUNDS_APART, 200);
     put_request(request);
     /* In any order: trusting puts the bank in the order of the ids, and refuses what may not serve. */
     uint8_t *next = put_model(bank, 2, 1, 8000, 50, 1, 1000000, 2000000);
@@ -179,6 +182,11 @@ int main(int argc, char **argv)
     must("what_would_win", volankizo_what_would_win(once, sizeof once, request, sizeof request, bank, sizeof bank, 1, boundary,
                                                     sizeof boundary));
     printf("with the cost rounded up once, in place of input and output apart:\n");
+    print_levers(boundary);
+    /* And under one by which the first 200 ms of each latency are free. */
+    must("what_would_win", volankizo_what_would_win(free_200, sizeof free_200, request, sizeof request, bank, sizeof bank, 1, boundary,
+                                                    sizeof boundary));
+    printf("with 200 ms of each latency free:\n");
     print_levers(boundary);
 
     if (argc > 1)

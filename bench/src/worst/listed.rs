@@ -17,6 +17,8 @@ const DECIDED: &[(&str, Make)] = &[
     ("three long divisions and no utility", inputs::no_utility),
     ("two long divisions and over budget", inputs::over_budget),
     ("rejected at the last gate", inputs::last_gate),
+    ("the same without an allowance", inputs::without_allowance),
+    ("the same with every latency below the allowance", inputs::below_allowance),
     ("every record eligible, rounded once", inputs::rounds_once),
     ("every record eligible within 64 bits", inputs::within_64_bits),
 ];
@@ -26,6 +28,7 @@ const LIVE_DECIDED: &[(&str, Make)] = &[
     ("the same with the first slot free", inputs::first_free),
     ("the same with every second slot free", inputs::every_second_free),
     ("no slot free, each first by its id", inputs::first_by_id),
+    ("no slot free, without an allowance", inputs::without_allowance),
     ("no slot free, three long divisions and no utility", inputs::no_utility),
     ("every slot free", inputs::all_free),
 ];
@@ -35,6 +38,8 @@ const LISTED: &[(&str, Make)] = &[
     ("the same, each first by its id", inputs::first_by_id),
     ("the same with quotients of many ones", inputs::other_digits),
     ("the same with both prices from 2^40 on", inputs::both_prices_long),
+    ("the same without an allowance", inputs::without_allowance),
+    ("the same with every latency below the allowance", inputs::below_allowance),
     ("three long divisions and no utility", inputs::no_utility),
     ("two long divisions and over budget", inputs::over_budget),
     ("rejected at the last gate", inputs::last_gate),
@@ -42,6 +47,7 @@ const LISTED: &[(&str, Make)] = &[
 
 const WON: &[(&str, Make)] = &[
     ("the last record, outranked: quality, latency and price searched to their ends", inputs::three_levers),
+    ("the same without an allowance", inputs::three_levers_without_allowance),
     ("the last record, below the risk: its ceiling searched to its end", inputs::ceiling_alone),
     ("the last record, switched off", inputs::switched_off),
     ("the last record, which is behind by its id alone", inputs::second_by_id),
@@ -51,6 +57,7 @@ const WON: &[(&str, Make)] = &[
 const MARGIN: &[(&str, Make)] = &[
     ("the last record chosen: four levers searched to their ends from 65,535", inputs::four_levers),
     ("the same from 10,000", inputs::four_levers_by_10_000),
+    ("the same without an allowance", inputs::four_levers_without_allowance),
     ("the last record chosen: only its quality has a boundary", inputs::quality_alone),
     ("the first record chosen by its id", inputs::second_by_id),
 ];
@@ -97,6 +104,7 @@ const EDITED: &[(&str, Make)] = &[
     ("the last record, all others free", inputs::edit_last_others_free),
     ("the last record, no slot free", inputs::edit_last_none_free),
     ("an id that isn't listed, every slot free", inputs::edit_nowhere_all_free),
+    ("an id that isn't listed, every slot free, the catalogue epoch at its largest", inputs::epoch_spent_all_free),
     ("the last slot not clear, all others free", inputs::last_not_clear),
 ];
 
@@ -175,8 +183,10 @@ pub const WORST: [Worst; 33] = [
         call: calls::WRITE_STORED,
         most: MOST_STORED,
         inputs: &[
-            ("a policy that rounds once", inputs::stored_once),
-            ("a policy of 30 bytes", inputs::second_by_id),
+            ("a policy that rounds once and has an allowance", inputs::stored_once),
+            ("a policy that rounds apart and has an allowance", inputs::second_by_id),
+            ("a policy that rounds once", inputs::stored_once_in_31),
+            ("a policy of 30 bytes", inputs::without_allowance),
             ("a policy of 31 bytes that rounds apart", inputs::stored_apart_in_31),
         ],
     },
@@ -184,8 +194,10 @@ pub const WORST: [Worst; 33] = [
         call: calls::READ_STORED,
         most: MOST_STORED,
         inputs: &[
-            ("a policy that rounds once", inputs::stored_once),
-            ("a policy that rounds apart", inputs::second_by_id),
+            ("a policy that rounds once and has an allowance", inputs::stored_once),
+            ("a policy that rounds apart and has an allowance", inputs::second_by_id),
+            ("a policy that rounds once", inputs::stored_once_in_31),
+            ("a policy that rounds apart", inputs::without_allowance),
         ],
     },
     Worst { call: calls::WRITE_REQUEST, most: ANY, inputs: &[("any request", inputs::request_sound)] },
@@ -233,6 +245,7 @@ pub const WORST: [Worst; 33] = [
         most: MOST,
         inputs: &[
             ("a new id, every slot free", inputs::add_all_free),
+            ("a new id, every slot free, the catalogue epoch at its largest", inputs::epoch_spent_all_free),
             ("a new id, every second slot free", inputs::add_every_second_free),
             ("a new id, the last slot free", inputs::add_last_free),
             ("a new id, no slot free", inputs::add_no_room),

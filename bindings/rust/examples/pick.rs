@@ -18,6 +18,7 @@ const POLICY: PolicySnapshot = PolicySnapshot {
     risk_penalty_multiplier_bps: 10_000,
     latency_penalty_microunits_per_ms: 10,
     rounding: Rounding::Apart,
+    latency_allowance_ms: 0,
 };
 
 const FIRST: KernelModel = KernelModel {
@@ -94,6 +95,9 @@ fn pick() -> Result<(), Box<dyn Error>> {
     // The same under a policy that adds what input and output cost before it rounds up.
     println!("with the cost rounded up once, in place of input and output apart:");
     show(&what_would_win(&PolicySnapshot { rounding: Rounding::Once, ..POLICY }, &bank, REQUEST, 1)?);
+    // And under one by which the first 200 ms of each latency are free.
+    println!("with 200 ms of each latency free:");
+    show(&what_would_win(&PolicySnapshot { latency_allowance_ms: 200, ..POLICY }, &bank, REQUEST, 1)?);
 
     if let Some(path) = std::env::args_os().nth(1) {
         let mut input = write_stored(&POLICY, &bank)?;

@@ -22,6 +22,7 @@ const POLICY: PolicySnapshot = PolicySnapshot {
     risk_penalty_multiplier_bps: 10_000,
     latency_penalty_microunits_per_ms: 10,
     rounding: Rounding::Apart,
+    latency_allowance_ms: 0,
 };
 
 const SENTENCE: KernelInput = KernelInput {

@@ -244,7 +244,7 @@ pub fn decision_margin(policy: &[u8], request: &[u8], bank: &[u8], out: &mut [u8
     }
 }
 
-/// Writes the stored form: 36 bytes of `out` more than the bank has, 40 where the policy rounds once.
+/// Writes the stored form: 36 bytes of `out` more than the bank has, 4 more where the policy rounds once, 7 more where it has an allowance.
 pub fn write_stored(policy: &[u8], bank: &[u8], out: &mut [u8]) -> u64 {
     // SAFETY: every address is lent with its own length, and `out` alone is written, lent to this call only.
     unsafe {
@@ -252,7 +252,7 @@ pub fn write_stored(policy: &[u8], bank: &[u8], out: &mut [u8]) -> u64 {
     }
 }
 
-/// Reads a stored form: the models to the start of `bank`, 39 bytes of `out`.
+/// Reads a stored form: the models to the start of `bank`, 43 bytes of `out`.
 pub fn read_stored(form: &[u8], bank: &mut [u8], out: &mut [u8]) -> u64 {
     // SAFETY: every address is lent with its own length, and `bank` and `out` alone are written, lent to this call only.
     unsafe {

@@ -2,10 +2,12 @@
 
 /// A model in a bank.
 pub const RECORD_BYTES: usize = 47;
-/// A policy's six numbers, which alone are a policy that rounds apart.
+/// A policy's six numbers, which alone are a policy that rounds apart and has no allowance.
 pub const POLICY_BYTES: usize = 30;
 /// A policy that also says how it rounds.
-pub const LONGEST_POLICY_BYTES: usize = 31;
+pub const ROUNDED_POLICY_BYTES: usize = 31;
+/// A policy that says how it rounds, and its allowance.
+pub const LONGEST_POLICY_BYTES: usize = 35;
 /// A request.
 pub const REQUEST_BYTES: usize = 70;
 /// A decision with its nine counts.
@@ -30,8 +32,10 @@ pub const BOUNDARY_BYTES: usize = 183;
 pub const FIELD_HEADER_BYTES: usize = 3;
 /// The field of a stored form that says that its policy rounds once.
 pub const ROUNDING_FIELD_BYTES: usize = 4;
-/// What reading a stored form tells beside the bank: the policy, with how it rounds, and the bank's length.
-pub const STORED_POLICY_BYTES: usize = 39;
+/// The field of a stored form that says its policy's allowance.
+pub const ALLOWANCE_FIELD_BYTES: usize = 7;
+/// What reading a stored form tells beside the bank: the policy in its longest form, and the bank's length.
+pub const STORED_POLICY_BYTES: usize = 43;
 /// A request form.
 pub const REQUEST_FORM_BYTES: usize = 73;
 /// Room that every text of `unit` fits in, with its length before it.
@@ -41,8 +45,8 @@ pub const ASK_TEXT_BYTES: usize = 678;
 /// The same for `ask ID words`.
 pub const ASK_WORDS_BYTES: usize = 1_208;
 
-/// A stored form with a bank of so many bytes and a policy that rounds apart, held at `usize::MAX`; with one that rounds once it has
-/// [`ROUNDING_FIELD_BYTES`] more.
+/// A stored form with a bank of so many bytes and a policy that rounds apart and has no allowance, held at `usize::MAX`; with one that rounds once it
+/// has [`ROUNDING_FIELD_BYTES`] more, and with an allowance [`ALLOWANCE_FIELD_BYTES`] more.
 pub const fn stored_form_bytes(bank_bytes: usize) -> usize {
     (FIELD_HEADER_BYTES + POLICY_BYTES + FIELD_HEADER_BYTES).saturating_add(bank_bytes)
 }

@@ -15,6 +15,7 @@
 //!     risk_penalty_multiplier_bps: 10_000,
 //!     latency_penalty_microunits_per_ms: 10,
 //!     rounding: Rounding::Apart,
+//!     latency_allowance_ms: 0,
 //! };
 //! let mut bank = Bank::from_models(&[KernelModel {
 //!     model_id: 2,

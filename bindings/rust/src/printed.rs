@@ -1,4 +1,4 @@
-//! What the programs print, for an input of their kind: a stored form, of either rounding, with a request form after it.
+//! What the programs print, for an input of their kind: a stored form, of any policy, with a request form after it.
 //! An input that they refuse is no refusal here: its text begins with the line `refused N`, and in words a sentence follows.
 use crate::ffi;
 use crate::layout::{broken, Fields, ASK_TEXT_BYTES, ASK_WORDS_BYTES, UNIT_TEXT_BYTES};

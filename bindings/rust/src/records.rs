@@ -1,5 +1,7 @@
 //! What is decided on: models, requests, and policies, with their packed bytes.
-use crate::layout::{broken, Fields, Packed, LONGEST_POLICY_BYTES, POLICY_BYTES, RECORD_BYTES, REQUEST_BYTES};
+use crate::layout::{
+    broken, Fields, Packed, LONGEST_POLICY_BYTES, POLICY_BYTES, RECORD_BYTES, REQUEST_BYTES, ROUNDED_POLICY_BYTES,
+};
 use crate::refusal::Refusal;
 
 /// A mask that lets every provider in.
@@ -70,7 +72,7 @@ pub enum Rounding {
     Once = 1,
 }
 
-/// The six numbers of a policy, and how it rounds. The models stand beside it, in a bank.
+/// The six numbers of a policy, how it rounds, and its allowance. The models stand beside it, in a bank.
 #[derive(Clone, Copy, Debug, PartialEq, Eq)]
 pub struct PolicySnapshot {
     pub policy_epoch: u64,
@@ -80,9 +82,13 @@ pub struct PolicySnapshot {
     /// A request with less confidence is rejected at once.
     pub minimum_confidence_bps: u16,
     pub risk_penalty_multiplier_bps: u16,
+    /// For each millisecond of a model's latency above the allowance.
     pub latency_penalty_microunits_per_ms: u64,
     /// Not in the Rust that was ported, which rounds apart.
     pub rounding: Rounding,
+    /// So many milliseconds of a model's latency are free; 0 is none. A request's limit is held against the full latency. Not in the Rust that was
+    /// ported, which charges each.
+    pub latency_allowance_ms: u32,
 }
 
 impl KernelModel {
@@ -183,25 +189,32 @@ impl PolicySnapshot {
             .and(self.risk_penalty_multiplier_bps.to_le_bytes())
             .and(self.latency_penalty_microunits_per_ms.to_le_bytes())
             .and([self.rounding.number()])
+            .and(self.latency_allowance_ms.to_le_bytes())
             .whole()
     }
 
-    /// Any 30 bytes are a policy that rounds apart, and any 31 one that rounds as the last of them says, where that is 0 or 1. Refusals, as of a
-    /// call that is lent them: 22, 23.
+    /// Any 30 bytes are a policy that rounds apart and has no allowance; any 31 one that rounds as the last of them says, where that is 0 or 1; and any
+    /// 35 one that rounds as the 31st says, with the last four for its allowance. Refusals, as of a call that is lent them: 22, 23.
     pub fn from_bytes(policy: &[u8]) -> Result<Self, Refusal> {
-        let rounding = match policy.len() {
-            POLICY_BYTES => Rounding::Apart,
-            LONGEST_POLICY_BYTES => Rounding::numbered(policy[POLICY_BYTES]).ok_or(Refusal::UnknownRounding)?,
-            _ => return Err(Refusal::WrongLength),
-        };
-        Ok(PolicySnapshot { rounding, ..PolicySnapshot::numbers(&mut Fields(policy)) })
+        if ![POLICY_BYTES, ROUNDED_POLICY_BYTES, LONGEST_POLICY_BYTES].contains(&policy.len()) {
+            return Err(Refusal::WrongLength);
+        }
+        let mut fields = Fields(policy);
+        let mut read = PolicySnapshot::numbers(&mut fields);
+        if policy.len() >= ROUNDED_POLICY_BYTES {
+            read.rounding = Rounding::numbered(fields.u8()).ok_or(Refusal::UnknownRounding)?;
+        }
+        if policy.len() == LONGEST_POLICY_BYTES {
+            read.latency_allowance_ms = fields.u32();
+        }
+        Ok(read)
     }
 
-    /// What the 31 bytes tell in which the library hands a policy back.
+    /// What the 35 bytes tell in which the library hands a policy back.
     pub(crate) fn taken(fields: &mut Fields) -> Self {
         let numbers = PolicySnapshot::numbers(fields);
         let rounding = Rounding::numbered(fields.u8()).unwrap_or_else(|| broken("a rounding that has no name"));
-        PolicySnapshot { rounding, ..numbers }
+        PolicySnapshot { rounding, latency_allowance_ms: fields.u32(), ..numbers }
     }
 
     fn numbers(fields: &mut Fields) -> Self {
@@ -213,6 +226,7 @@ impl PolicySnapshot {
             risk_penalty_multiplier_bps: fields.u16(),
             latency_penalty_microunits_per_ms: fields.u64(),
             rounding: Rounding::Apart,
+            latency_allowance_ms: 0,
         }
     }
 }

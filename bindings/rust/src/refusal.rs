@@ -48,6 +48,8 @@ pub enum Refusal {
     WrongLength,
     /// 23: a policy that rounds neither apart (0) nor once (1); in a form, a field of tag 4 whose body isn't 1.
     UnknownRounding,
+    /// 25: in a form, a field of tag 5 whose allowance is 0.
+    ZeroAllowance,
     /// 27: the catalogue epoch is at its largest, so that no edit can raise it.
     EpochSpent,
     /// 28: no slot is free for the model to add.
@@ -86,6 +88,7 @@ impl Refusal {
             21 => Refusal::WrongTag,
             22 => Refusal::WrongLength,
             23 => Refusal::UnknownRounding,
+            25 => Refusal::ZeroAllowance,
             27 => Refusal::EpochSpent,
             28 => Refusal::NoFreeSlot,
             34 => Refusal::SlotNotClear,
@@ -122,6 +125,7 @@ impl Refusal {
             Refusal::WrongTag => 21,
             Refusal::WrongLength => 22,
             Refusal::UnknownRounding => 23,
+            Refusal::ZeroAllowance => 25,
             Refusal::EpochSpent => 27,
             Refusal::NoFreeSlot => 28,
             Refusal::SlotNotClear => 34,
@@ -158,6 +162,7 @@ impl Display for Refusal {
             Refusal::WrongTag => write!(f, "a field or a byte of the form isn't due, or is missing"),
             Refusal::WrongLength => write!(f, "a length is not that of its field"),
             Refusal::UnknownRounding => write!(f, "the policy rounds in a way that has no name"),
+            Refusal::ZeroAllowance => write!(f, "the form says an allowance of 0"),
             Refusal::EpochSpent => write!(f, "the catalogue epoch can't be raised"),
             Refusal::NoFreeSlot => write!(f, "no slot of the bank is free"),
             Refusal::SlotNotClear => write!(f, "a slot with id 0 has another byte set"),

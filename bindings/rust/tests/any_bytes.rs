@@ -1,6 +1,6 @@
 //! Any bytes into every call: it comes back, writes its answer and nothing else, and where it refuses nothing at all.
 mod common;
-use common::{Source, ONCE, POLICY, REQUEST};
+use common::{Source, EACH, REQUEST};
 use volankizo::layout::*;
 use volankizo::{ffi, *};
 
@@ -60,10 +60,10 @@ fn any_request(source: &mut Source) -> Vec<u8> {
     request.to_vec()
 }
 
-/// Of 30 bytes or 31, the last of which is mostly 0 or 1.
+/// Of 30 bytes, 31 or 35, the 31st of which is mostly 0 or 1.
 fn any_policy(source: &mut Source) -> Vec<u8> {
     if source.below(2) == 0 {
-        let length = [POLICY_BYTES, LONGEST_POLICY_BYTES][source.below(2)];
+        let length = [POLICY_BYTES, ROUNDED_POLICY_BYTES, LONGEST_POLICY_BYTES][source.below(3)];
         let mut policy = near(source, length);
         if let Some(rounding) = policy.get_mut(POLICY_BYTES) {
             *rounding = [0, 1, 1, 2, 255][source.below(5)];
@@ -72,19 +72,21 @@ fn any_policy(source: &mut Source) -> Vec<u8> {
     }
     let mut policy = either(source).to_bytes();
     policy[source.below(POLICY_BYTES)] = source.number() as u8;
-    let length = if policy[POLICY_BYTES] == 0 && source.below(2) == 0 { POLICY_BYTES } else { LONGEST_POLICY_BYTES };
-    policy[..length].to_vec()
+    let short = policy[POLICY_BYTES..].iter().all(|byte| *byte == 0) && source.below(2) == 0;
+    policy[..if short { POLICY_BYTES } else { LONGEST_POLICY_BYTES }].to_vec()
 }
 
-/// The example's policy, rounding either way.
+/// The example's policy, rounding either way, with an allowance or without.
 fn either(source: &mut Source) -> PolicySnapshot {
-    [POLICY, ONCE][source.below(2)]
+    EACH[source.below(4)]
 }
 
 /// How many bytes the stored form takes of a policy in any bytes.
 fn stored_need(policy: &[u8], bank: &[u8]) -> usize {
     let once = policy.get(POLICY_BYTES) == Some(&Rounding::Once.number());
-    stored_form_bytes(bank.len()) + if once { ROUNDING_FIELD_BYTES } else { 0 }
+    let free = policy.iter().skip(ROUNDED_POLICY_BYTES).any(|byte| *byte != 0);
+    let more = if once { ROUNDING_FIELD_BYTES } else { 0 } + if free { ALLOWANCE_FIELD_BYTES } else { 0 };
+    stored_form_bytes(bank.len()) + more
 }
 
 /// A form, cut, lengthened or with a byte changed, or any bytes.
@@ -206,7 +208,8 @@ fn the_safe_calls() {
         let policy = PolicySnapshot::from_bytes(&source.bytes(POLICY_BYTES)).unwrap();
         let policy = if source.below(2) == 0 { policy } else { either(source) };
         let rounding = [Rounding::Apart, Rounding::Once][source.below(2)];
-        let policy = PolicySnapshot { rounding, ..policy };
+        let latency_allowance_ms = [0, 75, source.number() as u32][source.below(3)];
+        let policy = PolicySnapshot { rounding, latency_allowance_ms, ..policy };
         let request = KernelInput::from_bytes(&source.bytes(REQUEST_BYTES).try_into().unwrap());
         let request = if source.below(2) == 0 { request } else { REQUEST };
         let bank = any_bank(source);

@@ -1,8 +1,8 @@
 //! Batches: each request as it is decided alone, refusals in their order with nothing written, any bytes and any room.
 mod common;
-use common::{example_bank, many, Source, ONCE, POLICY, REQUEST};
+use common::{example_bank, many, Source, EACH, POLICY, REQUEST};
 use volankizo::ffi::batch::{prescribe_batch, prescribe_batch_checked};
-use volankizo::layout::{LONGEST_POLICY_BYTES, RECORD_BYTES, REQUEST_BYTES, UNCOUNTED_BYTES};
+use volankizo::layout::{RECORD_BYTES, REQUEST_BYTES, ROUNDED_POLICY_BYTES, UNCOUNTED_BYTES};
 use volankizo::{ffi, KernelInput, Refusal};
 
 const UNTOUCHED: u8 = 0xa5;
@@ -30,7 +30,7 @@ fn mixed() -> Vec<KernelInput> {
 
 #[test]
 fn each_as_it_is_decided_alone() {
-    for policy in [POLICY, ONCE] {
+    for policy in EACH {
         for bank in [example_bank(), many(0), many(300)] {
             let alone: Vec<_> = mixed().into_iter().map(|input| policy.prescribe(&bank, input).unwrap()).collect();
             assert_eq!(policy.prescribe_batch(&bank, &mixed()).unwrap(), alone);
@@ -63,10 +63,11 @@ fn the_first_refusal_of_all_that_would_do() {
     let bad = KernelInput { risk_bps: 10_001, ..REQUEST };
     let requests = packed(&[REQUEST, bad]);
     let long = [&POLICY.to_bytes()[..30], &[2, 0]].concat();
-    let rounds = &long[..LONGEST_POLICY_BYTES];
+    let rounds = &long[..ROUNDED_POLICY_BYTES];
+    let odd = [rounds, &[200, 0, 0, 0]].concat();
     let policy = POLICY.to_bytes();
     let (bank, uneven, large) = (example_bank(), vec![0; RECORD_BYTES + 1], vec![0; 65_536 * RECORD_BYTES]);
-    let rows: [(u64, &[u8], &[u8], u64, &[u8], usize); 11] = [
+    let rows: [(u64, &[u8], &[u8], u64, &[u8], usize); 15] = [
         (22, rounds, &requests[1..], 2, &uneven, 0),
         (22, rounds, &requests, 1, &uneven, 0),
         (22, rounds, &requests, 3, &uneven, 0),
@@ -75,7 +76,11 @@ fn the_first_refusal_of_all_that_would_do() {
         // 70 times this count is 140 where a product is cut to 64 bits
         (22, rounds, &requests, (1 << 63) + 2, &uneven, 0),
         (22, &long, &requests, 2, &uneven, 0),
+        (22, &odd[..34], &requests, 2, &uneven, 0),
+        (22, &[0; 36], &requests, 2, &uneven, 0),
+        (22, &odd, &requests[1..], 2, &uneven, 0),
         (23, rounds, &requests, 2, &uneven, 0),
+        (23, &odd, &requests, 2, &uneven, 0),
         (1, &policy, &requests, 2, &uneven, 0),
         (2, &policy, &requests, 2, &large, 0),
         (4, &policy, &requests, 2, &bank, 2 * UNCOUNTED_BYTES - 1),
@@ -109,7 +114,7 @@ fn any_bytes() {
             }
         }
         let told = count as u64 + u64::from(source.below(8) == 0) * source.number();
-        let policy = [POLICY, ONCE][source.below(2)].to_bytes();
+        let policy = EACH[source.below(4)].to_bytes();
         let bank = example_bank();
         let room = (count * UNCOUNTED_BYTES + source.below(3)).saturating_sub(source.below(2));
         for (checked, batch) in BOTH {

@@ -1,7 +1,7 @@
 //! The worked rows of edits and compactions: the slot that each takes, every byte that it leaves, and each of its refusals with what comes before it.
 mod common;
-use common::{example_bank, many, slots, FIRST, ONCE, POLICY, REQUEST, SECOND};
-use volankizo::layout::{EDIT_BYTES, POLICY_BYTES, RECORD_BYTES};
+use common::{example_bank, many, slots, EACH, FIRST, FREE_ONCE, POLICY, REQUEST, SECOND};
+use volankizo::layout::{EDIT_BYTES, POLICY_BYTES, RECORD_BYTES, ROUNDED_POLICY_BYTES};
 use volankizo::live::{self, FREE_SLOT};
 use volankizo::{ffi, Bank, KernelModel, PolicySnapshot, Refusal};
 
@@ -29,20 +29,21 @@ fn removing(id: u32) -> impl Fn(&mut PolicySnapshot, &mut [u8]) -> Result<u16, R
     move |policy, bank| live::remove(policy, bank, id)
 }
 
-/// An edit under the example's policy, of either rounding: the number that it tells and the bank that it leaves. The policy has its epoch raised
-/// and is else as it was.
+/// An edit under the example's policy, of every kind: the number that it tells and the bank that it leaves. The policy has its epoch raised and is
+/// else as it was.
 fn done(
     before: &[Option<KernelModel>],
     edit: impl Fn(&mut PolicySnapshot, &mut [u8]) -> Result<u16, Refusal>,
 ) -> (u16, Bank) {
-    let [apart, once] = [POLICY, ONCE].map(|policy| {
+    let told = EACH.map(|policy| {
         let (mut raised, mut bank) = (policy, slots(before));
         let number = edit(&mut raised, &mut bank).unwrap();
         assert_eq!(raised, PolicySnapshot { catalog_epoch: 4, ..policy });
         (number, bank)
     });
-    assert_eq!(apart, once);
-    apart
+    let [first, others @ ..] = told;
+    assert!(others.iter().all(|other| *other == first));
+    first
 }
 
 /// Why an edit is refused; neither policy nor bank is changed.
@@ -249,7 +250,7 @@ fn the_largest_compactions() {
 /// An edit on bytes, what is offered to it given: the policy, the bank and the buffer that it writes.
 type Call<'a> = &'a dyn Fn(&mut [u8], &mut [u8], &mut [u8]) -> u64;
 
-/// A policy of either length is edited in place, in bytes 8 to 15 alone; of the bank one slot, and two bytes of the buffer.
+/// A policy of each length is edited in place, in bytes 8 to 15 alone; of the bank one slot, and two bytes of the buffer.
 #[test]
 fn the_bytes_that_an_edit_writes() {
     let mut before = many(300);
@@ -263,9 +264,9 @@ fn the_bytes_that_an_edit_writes() {
         // Nothing moves: slot 299 is the free one.
         (&|policy, bank, out| ffi::live::compact(policy, bank, out), 299, FREE_SLOT),
     ];
-    let longest = PolicySnapshot { catalog_epoch: 0x01ff_ffff, ..ONCE }.to_bytes();
+    let longest = PolicySnapshot { catalog_epoch: 0x01ff_ffff, ..FREE_ONCE }.to_bytes();
     for (edit, number, slot) in edits {
-        for policy in [&longest[..POLICY_BYTES], &longest] {
+        for policy in [&longest[..POLICY_BYTES], &longest[..ROUNDED_POLICY_BYTES], &longest] {
             let (mut raised, mut bank, mut out) = (policy.to_vec(), before.clone(), [0xaa; EDIT_BYTES + 3]);
             assert_eq!(edit(&mut raised, &mut bank, &mut out), 0);
             assert_eq!(out, [&number.to_le_bytes()[..], &[0xaa; 3]].concat()[..]);

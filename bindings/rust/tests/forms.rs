@@ -1,6 +1,6 @@
 //! Stored form, request form and texts: round trips, and the worked example's bytes and lines.
 mod common;
-use common::{example_bank, many, Source, FIRST, ONCE, POLICY, REQUEST, SECOND, UNIT_INPUT};
+use common::{example_bank, many, Source, FIRST, FREE, FREE_ONCE, ONCE, POLICY, REQUEST, SECOND, UNIT_INPUT};
 use volankizo::{
     ask_text, ask_words, read_request, read_stored, read_stored_into, unit_text, write_request, write_stored, Bank,
     KernelInput, KernelModel, PolicySnapshot, Rounding, MAX_STORED_MODELS,
@@ -40,6 +40,12 @@ Latency alone: 100 ms today; it must fall to at most 89 ms.
 const ONCE_INPUT: &[u8] = include_bytes!("../../../examples/inputs/once.bin");
 const ONCE_LINES: &str = include_str!("../../../examples/inputs/once.txt");
 
+/// With tag 5, and with both.
+const FREE_INPUT: &[u8] = include_bytes!("../../../examples/inputs/free.bin");
+const FREE_LINES: &str = include_str!("../../../examples/inputs/free.txt");
+const FREE_ONCE_INPUT: &[u8] = include_bytes!("../../../examples/inputs/free-once.bin");
+const FREE_ONCE_LINES: &str = include_str!("../../../examples/inputs/free-once.txt");
+
 #[test]
 fn the_example_in_bytes() {
     let form = write_stored(&POLICY, &example_bank()).unwrap();
@@ -55,8 +61,14 @@ fn what_was_written_is_read_and_written_again() {
     for models in [0, 1, 2, 3, 17, 900, MAX_STORED_MODELS] {
         let numbers = PolicySnapshot::from_bytes(&source.bytes(30)).unwrap();
         let bank = Bank::from_bytes(source.bytes(47 * models));
-        for (rounding, more) in [(Rounding::Apart, 36), (Rounding::Once, 40)] {
-            let policy = PolicySnapshot { rounding, ..numbers };
+        let kinds = [
+            (Rounding::Apart, 0, 36),
+            (Rounding::Once, 0, 40),
+            (Rounding::Apart, 1, 43),
+            (Rounding::Once, 1 + source.below(1 << 31) as u32, 47),
+        ];
+        for (rounding, latency_allowance_ms, more) in kinds {
+            let policy = PolicySnapshot { rounding, latency_allowance_ms, ..numbers };
             let form = write_stored(&policy, &bank).unwrap();
             assert_eq!(form.len(), more + bank.len());
             let (read, models) = read_stored(&form).unwrap();
@@ -98,6 +110,24 @@ fn the_example_rounding_once() {
     let price = "Price alone: it must fall by 55.7 percent or more; exactly, by 55.6112 percent, to 44.3888 percent of today's, \
                  where the request costs 799 microunits.";
     assert_eq!(words.lines().last(), Some(price));
+}
+
+/// Nothing is charged for 50 ms and for 100, so that model 1 is behind by 500 in place of 1,000.
+#[test]
+fn the_example_with_an_allowance() {
+    let (rounding, allowance) = ([4, 1, 0, 1], [5, 4, 0, 200, 0, 0, 0]);
+    let forms = [FREE, FREE_ONCE].map(|policy| write_stored(&policy, &example_bank()).unwrap());
+    assert_eq!(forms[0], [&UNIT_INPUT[..130], &allowance].concat());
+    assert_eq!(forms[1], [&UNIT_INPUT[..130], &rounding, &allowance].concat());
+    assert_eq!(forms.each_ref().map(|form| read_stored(form).unwrap().0), [FREE, FREE_ONCE]);
+    let inputs = forms.map(|form| [&form[..], &UNIT_INPUT[130..]].concat());
+    assert_eq!(inputs, [FREE_INPUT, FREE_ONCE_INPUT]);
+    assert_eq!(inputs.each_ref().map(|input| unit_text(input).unwrap()), [FREE_LINES, FREE_ONCE_LINES]);
+    let lines =
+        "decision 42 2 2 2 1 300 6700 1 6200 2 2 7 3\nlever 1 9000 9501 -\nlever 3 1000000 721333 1299\npasses 36\n";
+    assert_eq!(ask_text(FREE_INPUT, 1).unwrap(), lines);
+    let words = ask_words(FREE_INPUT, 1).unwrap();
+    assert!(words.contains("its utility of 6200 microunits is below 6700") && !words.contains("Latency"), "{words}");
 }
 
 #[test]

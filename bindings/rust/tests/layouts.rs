@@ -135,11 +135,16 @@ fn bytes_and_values_are_one_to_one() {
         assert_eq!(KernelInput::from_bytes(&request).to_bytes(), request);
         let numbers = source.bytes(30);
         for rounding in [Rounding::Apart, Rounding::Once] {
-            let policy = [&numbers[..], &[rounding.number()]].concat();
+            let (rounded, allowance) = ([&numbers[..], &[rounding.number()]].concat(), source.number() as u32);
+            let policy = [&rounded[..], &allowance.to_le_bytes()].concat();
             let read = PolicySnapshot::from_bytes(&policy).unwrap();
             assert_eq!((&read.to_bytes()[..], read.rounding), (&policy[..], rounding));
+            assert_eq!(read.latency_allowance_ms, allowance);
+            let read = PolicySnapshot::from_bytes(&rounded).unwrap();
+            assert_eq!((&read.to_bytes()[..], read.rounding), (&[&rounded[..], &[0; 4]].concat()[..], rounding));
         }
         let read = PolicySnapshot::from_bytes(&numbers).unwrap();
         assert_eq!((&read.to_bytes()[..30], read.rounding), (&numbers[..], Rounding::Apart));
+        assert_eq!(read.latency_allowance_ms, 0);
     }
 }

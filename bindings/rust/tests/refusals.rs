@@ -1,6 +1,6 @@
 //! Each refusal through the safe calls, with its values, and that a refused call leaves what it was lent.
 mod common;
-use common::{example_bank, many, FIRST, ONCE, POLICY, REQUEST, SECOND, UNIT_INPUT};
+use common::{example_bank, many, FIRST, FREE, FREE_ONCE, ONCE, POLICY, REQUEST, SECOND, UNIT_INPUT};
 use volankizo::layout::{
     BOUNDARY_BYTES, DECISION_BYTES, EXPLANATION_BYTES, NEXT_BYTES, REQUEST_FORM_BYTES, UNCOUNTED_BYTES,
 };
@@ -80,6 +80,10 @@ fn number_4_leaves_the_list_and_the_buffer() {
     assert_eq!(ffi::write_stored(&ONCE.to_bytes(), &bank, &mut buffer), 4, "four bytes more, rounding once");
     assert_eq!(buffer, [0xaa; 133]);
     assert_eq!(ffi::write_stored(&POLICY.to_bytes(), &bank, &mut buffer), 0);
+    let mut buffer = [0xaa; 140];
+    assert_eq!(ffi::write_stored(&FREE_ONCE.to_bytes(), &bank, &mut buffer), 4, "seven more, with an allowance");
+    assert_eq!(buffer, [0xaa; 140]);
+    assert_eq!(ffi::write_stored(&FREE.to_bytes(), &bank, &mut buffer), 0);
     assert_eq!(Refusal::NoRoom.number(), 4);
 }
 
@@ -224,7 +228,7 @@ fn numbers_20_to_23_of_the_field_that_says_how_to_round() {
     let faults: [(&[u8], Refusal); 12] = [
         (&[4], Refusal::CutShort),
         (&[4, 1], Refusal::CutShort),
-        (&[5], Refusal::WrongTag),
+        (&[6], Refusal::WrongTag),
         (&[4, 1, 0], Refusal::CutShort),
         (&[4, 2, 0, 1], Refusal::WrongLength),
         (&[4, 0, 0], Refusal::WrongLength),
@@ -245,19 +249,61 @@ fn numbers_20_to_23_of_the_field_that_says_how_to_round() {
     assert_eq!(read_stored(&after_the_bank(&[4, 1, 0, 1])), Ok((ONCE, example_bank())));
     let before = [&UNIT_INPUT[..33], &[4, 1, 0, 1], &UNIT_INPUT[33..130]].concat();
     assert_eq!(read_stored(&before), Err(Refusal::WrongTag));
-    let long = [&[1, 31, 0][..], &ONCE.to_bytes(), &UNIT_INPUT[33..130]].concat();
-    assert_eq!(read_stored(&long), Err(Refusal::WrongLength));
+    for length in [31, 35] {
+        let long = [&[1, length as u8, 0][..], &ONCE.to_bytes()[..length], &UNIT_INPUT[33..130]].concat();
+        assert_eq!(read_stored(&long), Err(Refusal::WrongLength));
+    }
     assert_eq!(Refusal::UnknownRounding.number(), 23);
 }
 
+/// The field of tag 5, alone and after that of tag 4.
 #[test]
-fn the_programs_refuse_that_field_before_anything_else() {
+fn numbers_20_to_25_of_the_field_that_says_an_allowance() {
+    let (rounding, allowance, none) = ([4, 1, 0, 1], [5, 4, 0, 200, 0, 0, 0], [5, 4, 0, 0, 0, 0, 0]);
+    let faults: [(&[u8], Refusal); 14] = [
+        (&[5], Refusal::CutShort),
+        (&[5, 4], Refusal::CutShort),
+        (&[5, 4, 0], Refusal::CutShort),
+        (&none[..6], Refusal::CutShort),
+        (&[5, 3, 0, 0, 0, 0], Refusal::WrongLength),
+        (&[5, 5, 0, 0], Refusal::WrongLength),
+        (&[5, 0, 0], Refusal::WrongLength),
+        (&[5, 4, 1], Refusal::WrongLength),
+        (&none, Refusal::ZeroAllowance),
+        (&[&none[..], &[0]].concat(), Refusal::ZeroAllowance),
+        (&[&allowance[..], &[0]].concat(), Refusal::WrongTag),
+        (&[&allowance[..], &[5]].concat(), Refusal::WrongTag),
+        (&[&allowance[..], &rounding].concat(), Refusal::WrongTag),
+        (&[allowance, allowance].concat(), Refusal::WrongTag),
+    ];
+    for (bytes, refusal) in faults {
+        for before in [&[][..], &rounding] {
+            let form = after_the_bank(&[before, bytes].concat());
+            let mut buffer = vec![0xaa; 200];
+            assert_eq!(read_stored_into(&form, &mut buffer), Err(refusal), "{bytes:?}");
+            assert!(buffer.iter().all(|byte| *byte == 0xaa));
+            assert_eq!(read_stored_into(&form, &mut []), Err(refusal), "before 4");
+        }
+    }
+    let unknown = [&[4, 1, 0, 2][..], &none].concat();
+    assert_eq!(read_stored(&after_the_bank(&unknown)), Err(Refusal::UnknownRounding), "23 before 25");
+    assert_eq!(read_stored(&after_the_bank(&allowance)), Ok((FREE, example_bank())));
+    let both = [&rounding[..], &allowance].concat();
+    assert_eq!(read_stored(&after_the_bank(&both)), Ok((FREE_ONCE, example_bank())));
+    let before = [&UNIT_INPUT[..33], &allowance, &UNIT_INPUT[33..130]].concat();
+    assert_eq!(read_stored(&before), Err(Refusal::WrongTag));
+    assert_eq!(Refusal::ZeroAllowance.number(), 25);
+}
+
+#[test]
+fn the_programs_refuse_those_fields_before_anything_else() {
     let request = &UNIT_INPUT[130..];
     let cut = ("refused 20\n", "The input ends within a field.\n");
     let order = ("refused 21\n", "A field of the input is missing, out of its order, or one too many.\n");
     let length = ("refused 22\n", "A field of the input has a length that its tag does not have.\n");
     let rounding = ("refused 23\n", "The input's rounding, under tag 4, is not 1.\n");
-    let faults: [(&[u8], &[u8], (&str, &str)); 8] = [
+    let allowance = ("refused 25\n", "The input's latency allowance, under tag 5, is 0.\n");
+    let faults: [(&[u8], &[u8], (&str, &str)); 16] = [
         (&[4, 1, 0, 0], request, rounding),
         (&[4, 0, 0], request, length),
         (&[4], &[], cut),
@@ -266,6 +312,14 @@ fn the_programs_refuse_that_field_before_anything_else() {
         (&[4, 1, 0, 1], &[], order),
         (&[4, 1, 0, 0], &[], rounding),
         (request, &[4, 1, 0, 1], order),
+        (&[5, 4, 0, 0, 0, 0, 0], request, allowance),
+        (&[4, 1, 0, 1, 5, 4, 0, 0, 0, 0, 0], request, allowance),
+        (&[4, 1, 0, 0, 5, 4, 0, 0, 0, 0, 0], request, rounding),
+        (&[5, 3, 0, 0, 0, 0], request, length),
+        (&[5, 4, 0, 0, 0, 0], &[], cut),
+        (&[5, 4, 0, 0, 0, 0, 0], &[], allowance),
+        (&[5, 4, 0, 200, 0, 0, 0], &[], order),
+        (&[5, 4, 0, 200, 0, 0, 0, 4, 1, 0, 1], request, order),
     ];
     for (bytes, then, (line, sentence)) in faults {
         let input = after_the_bank(&[bytes, then].concat());
@@ -282,6 +336,11 @@ fn numbers_22_and_23_of_a_policy() {
     assert_eq!((said(&[]), said(&[0]), said(&[1])), (Ok(Rounding::Apart), Ok(Rounding::Apart), Ok(Rounding::Once)));
     assert_eq!([said(&[2]), said(&[255])], [Err(Refusal::UnknownRounding); 2]);
     assert_eq!([said(&[1, 0]), said(&[2, 2])], [Err(Refusal::WrongLength); 2]);
+    let free = |last: &[u8]| PolicySnapshot::from_bytes(&[numbers, last].concat());
+    assert_eq!([free(&[0, 200, 0, 0, 0]), free(&[1, 200, 0, 0, 0])], [Ok(FREE), Ok(FREE_ONCE)]);
+    assert_eq!([free(&[0; 5]), free(&[1, 0, 0, 0, 0])], [Ok(POLICY), Ok(ONCE)]);
+    assert_eq!([free(&[2, 0, 0, 0, 0]), free(&[255; 5])], [Err(Refusal::UnknownRounding); 2]);
+    assert_eq!([3, 4, 6, 9].map(|more| free(&vec![2; more])), [Err(Refusal::WrongLength); 4]);
     assert_eq!(PolicySnapshot::from_bytes(&numbers[1..]), Err(Refusal::WrongLength));
 
     let (request, bank) = (REQUEST.to_bytes(), &example_bank()[1..]);
@@ -292,6 +351,12 @@ fn numbers_22_and_23_of_a_policy() {
         (&[2, 0], &request, 22),
         (&[0], &request, 1),
         (&[1], &request, 1),
+        (&[2, 0, 0, 0, 0], &request, 23),
+        (&[255; 5], &request[1..], 22),
+        (&[2; 4], &request, 22),
+        (&[2; 6], &request, 22),
+        (&[0; 5], &request, 1),
+        (&[1, 255, 255, 255, 255], &request, 1),
     ] {
         let policy = [numbers, last].concat();
         let words = [
@@ -307,7 +372,7 @@ fn numbers_22_and_23_of_a_policy() {
         let words =
             [ffi::validate(&policy, bank), ffi::trust(&policy, &mut lent), ffi::write_stored(&policy, bank, &mut [])];
         // These have no request.
-        let owed = if last == [2] { 23 } else { word };
+        let owed = if [1, 5].contains(&last.len()) && last[0] > 1 { 23 } else { word };
         assert_eq!((words, &lent[..]), ([owed; 3], bank), "{last:?}");
     }
 }
@@ -326,7 +391,7 @@ fn words_of_the_calls_on_bytes() {
 #[test]
 fn a_word_that_tells_nothing() {
     for number in 0..=255 {
-        let known = matches!(number, 1..=8 | 10..=18 | 20..=23 | 27 | 28 | 34);
+        let known = matches!(number, 1..=8 | 10..=18 | 20..=23 | 25 | 27 | 28 | 34);
         match Refusal::read(number) {
             Some(Ok(())) => assert_eq!(number, 0),
             Some(Err(refusal)) => assert!(known && u64::from(refusal.number()) == number),
@@ -347,6 +412,8 @@ fn a_refusal_says_what_is_wrong() {
     assert_eq!(said, "refused 3: the request's confidence_bps is 10002");
     let said = read_stored(&after_the_bank(&[4, 1, 0, 0])).unwrap_err().to_string();
     assert_eq!(said, "refused 23: the policy rounds in a way that has no name");
+    let said = read_stored(&after_the_bank(&[5, 4, 0, 0, 0, 0, 0])).unwrap_err().to_string();
+    assert_eq!(said, "refused 25: the form says an allowance of 0");
     let said = [Refusal::EpochSpent, Refusal::NoFreeSlot, Refusal::SlotNotClear].map(|refusal| refusal.to_string());
     let owed = ["27: the catalogue epoch can't", "28: no slot of the bank is free", "34: a slot with id 0 has another"];
     assert!(said.iter().zip(owed).all(|(said, owed)| said.starts_with(&format!("refused {owed}"))), "{said:?}");

@@ -1,10 +1,11 @@
-//! The worked rows, (A) to (K), through the safe calls; those that a policy which rounds once tells otherwise, and those that it doesn't.
+//! The worked rows, (A) to (K), through the safe calls; those that a policy which rounds once, or has an allowance, tells otherwise, and those that it
+//! doesn't.
 mod common;
-use common::{example_bank, many, FIRST, ONCE, POLICY, REQUEST, SECOND};
+use common::{example_bank, many, FIRST, FREE, FREE_ONCE, ONCE, POLICY, REQUEST, SECOND};
 use volankizo::{
     decision_margin, find, models, record_at, what_would_win, Bank, CandidateVerdict, GateKind, KernelAction,
-    KernelDecision, KernelInput, KernelModel, KernelReason, Lever, Refusal, RejectionHistogram, Requirement,
-    UtilityTerms,
+    KernelDecision, KernelInput, KernelModel, KernelReason, Lever, PolicySnapshot, Refusal, RejectionHistogram,
+    Requirement, UtilityTerms,
 };
 
 fn reason_of(bank: &[u8], request: KernelInput) -> KernelReason {
@@ -226,6 +227,62 @@ fn a_to_c_once() {
     ];
     assert_eq!((&margin.levers[..], margin.decision, margin.passes), (&levers[..], chosen(), 95));
     assert_eq!((ONCE.validate(&bank), ONCE.trust(&mut bank.clone())), (Ok(()), Ok(())));
+}
+
+/// With 200 ms free nothing is charged for 50 and 100: both gain what they were charged.
+#[test]
+fn a_to_c_free() {
+    let bank = example_bank();
+    let free =
+        KernelDecision { expected_utility_microunits: 6_700, counterfactual_utility_microunits: 6_200, ..chosen() };
+    let price = |boundary, cost| Requirement {
+        cost_at_boundary_microunits: Some(cost),
+        ..plain(Lever::PriceScalePpm, 1_000_000, boundary)
+    };
+    for (policy, wins, keeps) in [(FREE, 721_333, 2_665_000), (FREE_ONCE, 721_666, 2_666_666)] {
+        assert_eq!(policy.prescribe(&bank, REQUEST), Ok(free));
+        assert_eq!([1, 2].map(|id| policy.utility_for_model(&bank, REQUEST, id)), [Ok(6_200), Ok(6_700)]);
+        let answer = what_would_win(&policy, &bank, REQUEST, 1).unwrap();
+        let levers = vec![plain(Lever::QualityBps, 9_000, 9_501), price(wins, 1_299)];
+        assert_eq!((answer.levers, answer.decision, answer.passes), (levers, free, 36));
+        let margin = decision_margin(&policy, &bank, REQUEST).unwrap();
+        let levers = [
+            plain(Lever::QualityBps, 8_000, 7_500),
+            plain(Lever::P95LatencyMs, 50, 250),
+            price(keeps, 800),
+            plain(Lever::RiskCeilingBps, 8_000, 1_000),
+        ];
+        assert_eq!((&margin.levers[..], margin.decision, margin.passes), (&levers[..], free, 95));
+        assert_eq!((policy.validate(&bank), policy.trust(&mut bank.clone())), (Ok(()), Ok(())));
+    }
+}
+
+/// Latencies below, at and above an allowance, and at the ends of what there is; the gate compares the full one.
+#[test]
+fn a_term_at_its_edges() {
+    let term = |allowance: u32, penalty: u64, latency: u32| {
+        let policy =
+            PolicySnapshot { latency_allowance_ms: allowance, latency_penalty_microunits_per_ms: penalty, ..POLICY };
+        let bank = Bank::from_models(&[KernelModel { p95_latency_ms: latency, ..FIRST }]);
+        match policy.explain(&bank, REQUEST).unwrap().candidates[0].verdict {
+            CandidateVerdict::Eligible(terms) | CandidateVerdict::NonPositiveUtility(terms) => terms.latency_penalty,
+            verdict => panic!("{verdict:?}"),
+        }
+    };
+    assert_eq!([0, 199, 200, 201].map(|latency| term(200, 10, latency)), [0, 0, 0, 10]);
+    assert_eq!([0, 1, 2].map(|latency| term(1, 10, latency)), [0, 0, 10]);
+    assert_eq!(
+        [1, 256, 65_536, 1 << 24].map(|allowance| term(allowance, 1, 1 << 25)).map(|term| (1 << 25) - term),
+        [1, 256, 65_536, 1 << 24]
+    );
+    assert_eq!([0, u32::MAX - 1, u32::MAX].map(|latency| term(u32::MAX, u64::MAX, latency)), [0; 3]);
+    assert_eq!(term(u32::MAX - 1, u64::MAX, u32::MAX), i128::from(u64::MAX));
+    assert_eq!(term(1, u64::MAX, u32::MAX), i128::from(u64::MAX) * i128::from(u32::MAX - 1));
+    let limited = KernelInput { max_p95_latency_ms: 99, ..REQUEST };
+    for policy in [POLICY, FREE] {
+        let verdict = policy.explain(&example_bank(), limited).unwrap().candidates[0].verdict;
+        assert_eq!(verdict, CandidateVerdict::Rejected { gate: GateKind::Latency, measured: 100, limit: 99 });
+    }
 }
 
 #[test]

@@ -1,6 +1,6 @@
 //! Random rows of edits against a plain list of models, and the live calls over what they leave against the earlier calls over the live models alone.
 mod common;
-use common::{slots, Source, FIRST, ONCE, POLICY, REQUEST, SECOND};
+use common::{slots, Source, EACH, FIRST, REQUEST, SECOND};
 use volankizo::{
     decision_margin, find, live, what_would_win, Bank, KernelDecision, KernelInput, KernelModel, PolicySnapshot,
     Refusal,
@@ -122,14 +122,14 @@ fn rows_of_edits() {
     for seed in 0..ROUNDS {
         let source = &mut Source(seed);
         let mut listed = any_listed(source);
-        let rounding = [POLICY, ONCE][source.below(2)];
-        let mut policy = PolicySnapshot { catalog_epoch: listed.epoch, ..rounding };
+        let kind = EACH[source.below(4)];
+        let mut policy = PolicySnapshot { catalog_epoch: listed.epoch, ..kind };
         let mut bank = slots(&listed.slots);
         for _ in 0..EDITS {
             let edit = any_edit(source);
             let owed = listed.edit(edit);
             assert_eq!(edited(&mut policy, &mut bank, edit), owed, "seed {seed}, {edit:?}");
-            assert_eq!(policy, PolicySnapshot { catalog_epoch: listed.epoch, ..rounding }, "seed {seed}, {edit:?}");
+            assert_eq!(policy, PolicySnapshot { catalog_epoch: listed.epoch, ..kind }, "seed {seed}, {edit:?}");
             assert_eq!(bank, slots(&listed.slots), "seed {seed}, {edit:?}");
             *told.entry(owed.map_or_else(Refusal::number, |_| 0)).or_insert(0) += 1;
         }
@@ -149,7 +149,7 @@ fn as_if_the_bank_listed_nothing_else() {
     for seed in 0..10 * ROUNDS {
         let source = &mut Source(seed);
         let listed = any_listed(source).slots;
-        let policy = [POLICY, ONCE][source.below(2)];
+        let policy = EACH[source.below(4)];
         let request = KernelInput { risk_bps: [9_000, 10_001, 1_000][source.below(16).min(2)], ..REQUEST };
         let (bank, alone): (_, Bank) = (slots(&listed), listed.iter().copied().flatten().collect());
         let places: Vec<u16> = (0..).zip(&listed).filter(|(_, slot)| slot.is_some()).map(|(place, _)| place).collect();

@@ -5,12 +5,15 @@ use crate::calls::{
 };
 use crate::case::Case;
 use crate::second::boundaries::passes_and_levers;
-use crate::second::bytes::{models_of, policy_of, request_of, LONG_POLICY_BYTES, RECORD_BYTES};
+use crate::second::bytes::{
+    models_of, policy_of, request_of, Policy, LONG_POLICY_BYTES, RECORD_BYTES, ROUNDED_POLICY_BYTES,
+};
 use crate::second::deciding::{decide, explain, Explained, Question, Verdict};
 use crate::second::explanation::{EXPLANATION_BYTES, NO_MORE};
+use crate::second::gates::Failed;
 use crate::second::price::Terms;
 use crate::second::printed::LENGTH_BYTES;
-use crate::second::rules::{Rounding, Rules};
+use crate::second::rules::Rounding;
 use crate::second::slots::Slots;
 use oracle::kernel::KernelModel;
 use std::cmp::Reverse;
@@ -137,8 +140,8 @@ impl Figures {
             _ => "gaps closed",
         };
         self.find(call, what);
-        if case.policy.len() == LONG_POLICY_BYTES {
-            self.find(call, "policy of 31 bytes");
+        if case.policy.len() >= ROUNDED_POLICY_BYTES {
+            self.find(call, &format!("policy of {} bytes", case.policy.len()));
         }
     }
 
@@ -169,6 +172,7 @@ impl Figures {
         let question = Question::over(policy, request, models);
         let explained = explain(&question);
         self.note_rounding(case, &question, &explained);
+        self.note_allowance(case, &question, &explained);
         if let Some(key) = deciding_key(&question.models(), &explained) {
             self.see(format!("first before second by {key}"));
         }
@@ -182,18 +186,51 @@ impl Figures {
     /// Whether it is rounded once, and whether rounding apart would tell another cost, or choose another model.
     fn note_rounding(&mut self, case: &Case, question: &Question, explained: &[Explained]) {
         if question.policy.rounding == Rounding::Apart {
-            if case.policy.len() == LONG_POLICY_BYTES {
+            if case.policy.len() >= ROUNDED_POLICY_BYTES {
                 self.see(ROUNDINGS[0].into());
             }
             return;
         }
         self.see(ROUNDINGS[1].into());
-        let apart = Question { policy: question.policy.by(Rules::RUST), ..question.clone() };
-        if explain(&apart) != explained {
-            self.see(ROUNDINGS[2].into());
+        let apart = Policy { rounding: Rounding::Apart, ..question.policy };
+        self.note_departure(question, explained, apart, [ROUNDINGS[2], ROUNDINGS[3]]);
+    }
+
+    /// Whether some latency is free, where the allowance stands among the latencies, and whether without one some term, or the choice, would be
+    /// another.
+    fn note_allowance(&mut self, case: &Case, question: &Question, explained: &[Explained]) {
+        let allowance = question.policy.latency_allowance_ms;
+        if allowance == 0 {
+            if case.policy.len() == LONG_POLICY_BYTES {
+                self.see(ALLOWANCES[0].into());
+            }
+            return;
         }
-        if decide(&apart).0.model_id != decide(question).0.model_id {
-            self.see(ROUNDINGS[3].into());
+        self.see(ALLOWANCES[1].into());
+        let none = Policy { latency_allowance_ms: 0, ..question.policy };
+        self.note_departure(question, explained, none, [ALLOWANCES[2], ALLOWANCES[3]]);
+        if question.policy.rounding == Rounding::Once {
+            self.see(ALLOWANCES[4].into());
+        }
+        for (name, holds) in LATENCIES {
+            if question.records.iter().any(|(_, model)| holds(allowance, model.p95_latency_ms)) {
+                self.see(name.into());
+            }
+        }
+        let free_and_refused = |failed: &Failed| failed.gate == 3 && failed.measured <= u64::from(allowance);
+        if explained.iter().any(|it| matches!(&it.verdict, Verdict::Rejected(failed) if free_and_refused(failed))) {
+            self.see(ALLOWANCES[5].into());
+        }
+    }
+
+    /// Whether by another policy something would be explained otherwise, or another model chosen.
+    fn note_departure(&mut self, question: &Question, explained: &[Explained], policy: Policy, names: [&str; 2]) {
+        let other = Question { policy, ..question.clone() };
+        if explain(&other) != explained {
+            self.see(names[0].into());
+        }
+        if decide(&other).0.model_id != decide(question).0.model_id {
+            self.see(names[1].into());
         }
     }
 
@@ -237,6 +274,28 @@ pub const ROUNDINGS: [&str; 4] = [
     "rounded once",
     "rounded once, and apart some cost differs",
     "rounded once, and apart the choice differs",
+];
+
+/// Whether a policy has an allowance, and what comes of it.
+pub const ALLOWANCES: [&str; 6] = [
+    "35 bytes without an allowance",
+    "an allowance",
+    "an allowance, and without some term differs",
+    "an allowance, and without the choice differs",
+    "an allowance, rounded once",
+    "a latency that is free and above its limit",
+];
+
+pub type Beside = (&'static str, fn(u32, u32) -> bool);
+
+/// Where an allowance stands beside some latency.
+pub const LATENCIES: [Beside; 6] = [
+    ("an allowance just reached", |allowance, latency| allowance == latency),
+    ("an allowance 1 ms too short", |allowance, latency| latency > 0 && allowance == latency - 1),
+    ("an allowance of 1 ms too many", |allowance, latency| latency < u32::MAX && allowance == latency + 1),
+    ("an allowance of 2^32 - 1 ms", |allowance, _| allowance == u32::MAX),
+    ("an allowance above some latency", |allowance, latency| allowance > latency),
+    ("an allowance below some latency", |allowance, latency| allowance < latency),
 ];
 
 pub type Extreme = (&'static str, fn(&Terms) -> bool);

@@ -1,7 +1,7 @@
 //! The forms that are made of a case, and what can be wrong with one.
 use crate::case::Case;
-use crate::second::bytes::{LONG_POLICY_BYTES, POLICY_BYTES};
-use crate::second::forms::{MODELS, POLICY, REQUEST, ROUNDING};
+use crate::second::bytes::{LONG_POLICY_BYTES, POLICY_BYTES, ROUNDED_POLICY_BYTES};
+use crate::second::forms::{ALLOWANCE, MODELS, POLICY, REQUEST, ROUNDING};
 
 /// One thing wrong with a form. A field is meant by its place; where there is none, nothing happens.
 #[derive(Clone, Copy, Debug, PartialEq, Eq)]
@@ -21,6 +21,8 @@ pub enum Damage {
     Swapped(usize, usize),
     /// A field that says how to round, with this body, before the one at a place or after the last.
     Rounding(usize, u8),
+    /// A field that says this allowance, before the one at a place or after the last.
+    Allowance(usize, u32),
     /// A field of its own after the last, empty.
     Added(u8),
     /// The first bytes alone.
@@ -56,24 +58,33 @@ pub fn form_bytes(case: &Case, tags: &[u8], damages: &[Damage]) -> Vec<u8> {
 
 /// A body that is too long for its length is there all the same.
 fn field(case: &Case, tag: u8) -> Option<Field> {
-    let (numbers, rounding) = parted(&case.policy);
+    let (numbers, rounding, allowance) = parted(&case.policy);
     let body = match tag {
         POLICY => numbers.to_vec(),
         MODELS => case.bank.clone(),
         REQUEST => case.request.clone(),
         ROUNDING => vec![rounding?],
+        ALLOWANCE => allowance?.to_vec(),
         _ => unreachable!("no form has such a tag"),
     };
     Some(Field::of(tag, body))
 }
 
-/// The numbers of a policy, and what its field that says how to round holds: a policy of 31 bytes has one, unless the last of them is 0. A
-/// policy of any other length is taken for numbers alone.
-fn parted(policy: &[u8]) -> (&[u8], Option<u8>) {
-    match policy.len() {
-        LONG_POLICY_BYTES => (&policy[..POLICY_BYTES], Some(policy[POLICY_BYTES]).filter(|rounding| *rounding != 0)),
-        _ => (policy, None),
+/// The numbers of a policy, what its field that says how to round holds, and what the one that says its allowance: a policy of 31 bytes has the first,
+/// and one of 35 both, unless they would hold 0. A policy of any other length is taken for numbers alone.
+fn parted(policy: &[u8]) -> (&[u8], Option<u8>, Option<&[u8]>) {
+    if ![ROUNDED_POLICY_BYTES, LONG_POLICY_BYTES].contains(&policy.len()) {
+        return (policy, None, None);
     }
+    let (numbers, after) = policy.split_at(POLICY_BYTES);
+    let (rounding, allowance) = after.split_at(1);
+    let says = allowance.iter().any(|byte| *byte != 0);
+    (numbers, Some(rounding[0]).filter(|rounding| *rounding != 0), says.then_some(allowance))
+}
+
+/// The field before the one at a place, or after the last.
+fn put(fields: &mut Vec<Field>, at: usize, field: Field) {
+    fields.insert(at.min(fields.len()), field);
 }
 
 impl Damage {
@@ -89,7 +100,8 @@ impl Damage {
         else {
             match self {
                 Damage::Added(tag) => fields.push(Field::of(tag, Vec::new())),
-                Damage::Rounding(at, body) => fields.insert(at.min(fields.len()), Field::of(ROUNDING, vec![body])),
+                Damage::Rounding(at, body) => put(fields, at, Field::of(ROUNDING, vec![body])),
+                Damage::Allowance(at, body) => put(fields, at, Field::of(ALLOWANCE, body.to_le_bytes().to_vec())),
                 _ => {}
             }
             return;

@@ -1,11 +1,11 @@
 //! The inputs reach every rule: each refusal of each call, each reason, each count, each key of the ranking, each extreme, each verdict,
 //! each lever, each line, each sentence, and free slots and edits of each kind.
 use compare::calls::{
-    ADD, ASK, CALLS, COMPACT, EXPLAIN, LIVE_EXPLAIN, LIVE_MARGIN, LIVE_PRESCRIBE, LIVE_WIN, MARGIN, NEXT, REMOVE,
-    REPLACE, TRUST, UNIT, WIN, WORDS, WRITE_STORED,
+    ADD, ASK, CALLS, COMPACT, EXPLAIN, LIVE_EXPLAIN, LIVE_MARGIN, LIVE_PRESCRIBE, LIVE_WIN, MARGIN, NEXT, READ_STORED,
+    REMOVE, REPLACE, TRUST, UNIT, WIN, WORDS, WRITE_STORED,
 };
 use compare::case::Case;
-use compare::figures::{Figures, COUNTS, EXTREMES, KEYS, LEVERS, ROUNDINGS, SEARCHED};
+use compare::figures::{Figures, ALLOWANCES, COUNTS, EXTREMES, KEYS, LATENCIES, LEVERS, ROUNDINGS, SEARCHED};
 use compare::generate::{Asked, Draw, Policies, DRAWS, SPACES};
 
 fn note(figures: &mut Figures, asked: &Asked, case: &Case) {
@@ -15,7 +15,7 @@ fn note(figures: &mut Figures, asked: &Asked, case: &Case) {
 }
 
 /// The refusals of each call, in the order of `CALLS`. 2 takes a bank of 65,536 records and 18 one of 1,395: the small spaces alone reach
-/// them, and are asked for them apart.
+/// them, and are asked for them apart. 25 takes a form that says an allowance.
 const REFUSED: [&[u8]; CALLS.len()] = [
     &[1, 4, 22, 23],
     &[1, 3, 4, 22, 23],
@@ -124,9 +124,11 @@ fn assert_reached(figures: &Figures) {
         let others = figures
             .refused
             .keys()
-            .filter(|(of, number)| *of == call && ![2, 18].contains(number) && !numbers.contains(number));
+            .filter(|(of, number)| *of == call && ![2, 18, 25].contains(number) && !numbers.contains(number));
         assert_eq!(others.count(), 0, "{} is refused with no other number", CALLS[call].name);
     }
+    let zero = figures.refused.keys().filter(|(_, number)| *number == 25);
+    assert!(zero.into_iter().all(|(call, _)| *call == READ_STORED), "no other form that is read says an allowance");
     let reasons = [1, 2].into_iter().chain(100..=110).map(|reason| format!("reason {reason:3}"));
     let counts = COUNTS.iter().map(|count| format!("some rejected for {count}"));
     let keys = KEYS.map(|key| format!("first before second by {key}"));
@@ -191,6 +193,25 @@ fn assert_said(figures: &Figures, sentences: &[&str]) {
     }
 }
 
+/// How a policy may round.
+fn assert_roundings(figures: &Figures) {
+    ROUNDINGS.iter().for_each(|what| assert_seen(figures, what));
+}
+
+/// Allowances of every kind beside every kind of latency; the refusal of one that is 0, from the call and in each text, with its sentence; and edits
+/// of policies that have one.
+fn assert_allowances(figures: &Figures) {
+    ALLOWANCES.iter().chain(LATENCIES.iter().map(|(name, _)| name)).for_each(|what| assert_seen(figures, what));
+    assert!(figures.refused.get(&(READ_STORED, 25)).is_some_and(|times| *times > 10));
+    let printed = [UNIT, ASK, WORDS].map(|call| (call, "prints refused 25"));
+    let edited = [ADD, REPLACE, REMOVE, COMPACT].map(|call| (call, "policy of 35 bytes"));
+    for (call, what) in printed.into_iter().chain(edited) {
+        let times = figures.found.get(&(call, what.into()));
+        assert!(times.is_some_and(|times| *times > 10), "{}: {what}", CALLS[call].name);
+    }
+    assert_said(figures, &["The input's latency allowance, under tag , is ."]);
+}
+
 #[test]
 fn the_small_spaces_reach_everything() {
     let mut figures = Figures::default();
@@ -199,7 +220,8 @@ fn the_small_spaces_reach_everything() {
     }
     assert_reached(&figures);
     assert_said(&figures, &RARE_SENTENCES);
-    ROUNDINGS.iter().for_each(|what| assert_seen(&figures, what));
+    assert_roundings(&figures);
+    assert_allowances(&figures);
     // Only banks of 65,536 records and more; neither a request nor a list is a bank.
     let banks = (0..CALLS.len()).filter(|call| REFUSED[*call].contains(&1));
     assert!(banks.clone().count() == 24 && banks.into_iter().all(|call| figures.refused.contains_key(&(call, 2))));
@@ -226,5 +248,13 @@ fn random_cases_that_round_apart_reach_everything_else() {
 fn random_cases_that_round_either_way_reach_everything() {
     let figures = reached(Policies::Both);
     assert_reached(&figures);
-    ROUNDINGS.iter().for_each(|what| assert_seen(&figures, what));
+    assert_roundings(&figures);
+}
+
+#[test]
+fn random_cases_with_an_allowance_reach_everything() {
+    let figures = reached(Policies::Allowing);
+    assert_reached(&figures);
+    assert_roundings(&figures);
+    assert_allowances(&figures);
 }

@@ -276,7 +276,8 @@ fn a_policys_bytes() {
     assert_eq!(read_policy(&policy(&[255])), Err(23), "and of 255: 23");
     let roundings = [&[][..], &[0], &[1]].map(|after| policy_of(&policy(after)).rounding);
     assert_eq!(roundings, [Apart, Apart, Once], "how they round");
-    assert_eq!(long_policy_bytes(&policy_of(&policy(&[1]))), policy(&[1]), "handed back: 31 bytes");
+    let handed = long_policy_bytes(&policy_of(&policy(&[1])));
+    assert_eq!(handed, policy(&[1, 0, 0, 0, 0]), "handed back: 35 bytes, the last four 0");
 }
 
 // ---- stored forms
@@ -343,7 +344,7 @@ fn unread(number: u64, bytes: usize) -> (u64, Vec<u8>, Vec<u8>) {
 #[test]
 fn forms_that_are_read() {
     let models = example().case(1).bank;
-    let owed = (0, [policy(&[1]), (MODELS as u64).to_le_bytes().to_vec()].concat(), lent(95, &models));
+    let owed = (0, [policy(&[1, 0, 0, 0, 0]), (MODELS as u64).to_le_bytes().to_vec()].concat(), lent(95, &models));
     assert_eq!(stored(&form(&ROUNDING), 95), owed, "once, read");
     let missing = stored(&form(&ROUNDING), 93);
     assert_eq!(missing, unread(4, 93), "once, one byte is missing for the models: 4");
@@ -414,8 +415,8 @@ fn inputs_that_are_refused() {
         refused(23, &[form, &[4, 1, 0, 0]], "a body of 0, then nothing: 23");
         refused(22, &[form, &[4, 2, 0]], "a length of 2, then nothing: 22");
         refused(23, &[form, &[4, 1, 0, 0, 3]], "a body of 0, then a cut request: 23");
-        refused(20, &[form, &[5, 0]], "two bytes of another tag: 20");
-        refused(21, &[form, &[5, 0, 0]], "three: 21");
+        refused(20, &[form, &[6, 0]], "two bytes of another tag: 20");
+        refused(21, &[form, &[6, 0, 0]], "three: 21");
         refused(20, &[form, &ROUNDING, &[4]], "a byte 4 after a whole tag 4: 20");
         refused(21, &[numbers, &ROUNDING, bank, request], "tag 4 before the catalogue: 21");
         refused(20, &[form, &[4]], "a byte 4 at the end: 20, as any byte where the request is due");

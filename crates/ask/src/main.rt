@@ -50,7 +50,7 @@ fn main() {
     if let DeskQuestion::Unclear = question {
         io::write_all(
             STDERR_FILENO,
-            b"ask 0.4.0, usage: ask ID, or ask ID words, with an ID from 0 to 4294967295\n",
+            b"ask 0.5.0, usage: ask ID, or ask ID words, with an ID from 0 to 4294967295\n",
         );
         return;
     }

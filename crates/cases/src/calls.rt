@@ -8,6 +8,7 @@ use crate::example::example;
 use crate::marks::REFUSED;
 use crate::parts::policy;
 use crate::parts::request;
+use endian::u32_at;
 use packing::input_bytes;
 use packing::policy_bytes;
 use rules::Refusal;
@@ -23,8 +24,10 @@ use stored::write_stored;
 // A policy or a request that isn't the example's.
 const ANOTHER: usize = 2_000_000;
 
-// The bytes of a policy's numbers; how it rounds stands after them.
+// The bytes of a policy's numbers; how it rounds stands after them, and its allowance after that.
 const POLICY: usize = 30;
+
+const ROUNDED_POLICY: usize = 31;
 
 // A refusal as one number, beyond every size.
 fn refused(refusal: Refusal) -> usize {
@@ -50,8 +53,14 @@ fn if_example(bytes: &[u8], start: usize, end: usize, size: usize) -> usize
     ANOTHER
 }
 
-// Told as the bank's size, where the policy is the example's and rounds so: 0 apart, 1 once.
-pub(crate) fn read_into(form: &[u8], rounding: u8, out: &mut [u8], room: usize) -> usize
+// Told as the bank's size, where the policy is the example's, rounds so (0 apart, 1 once), and has this allowance.
+pub(crate) fn read_into(
+    form: &[u8],
+    rounding: u8,
+    allowance: u32,
+    out: &mut [u8],
+    room: usize,
+) -> usize
     requires { ⌜ room ≤ length (now out) ⌝ }
 {
     let read = read_stored(form, &mut out[0..room]);
@@ -59,7 +68,7 @@ pub(crate) fn read_into(form: &[u8], rounding: u8, out: &mut [u8], room: usize) 
         StoredRead::Refused(refusal) => refused(refusal),
         StoredRead::Read(policy, size) => {
             let body = policy_bytes(policy);
-            if body[POLICY] != rounding {
+            if body[POLICY] != rounding || u32_at(&body, ROUNDED_POLICY) != allowance {
                 return ANOTHER;
             }
             if_example(&body[0..POLICY], 3, BANK, size)
@@ -79,11 +88,17 @@ pub(crate) fn request_read(form: &[u8]) -> usize {
     }
 }
 
-// The example's policy, rounding so, with a bank.
-pub(crate) fn write_into(rounding: Rounding, bank: &[u8], out: &mut [u8], room: usize) -> usize
+// The example's policy, rounding so and with an allowance, with a bank.
+pub(crate) fn write_into(
+    rounding: Rounding,
+    allowance: u32,
+    bank: &[u8],
+    out: &mut [u8],
+    room: usize,
+) -> usize
     requires { ⌜ room ≤ length (now out) ⌝ }
 {
-    written(write_stored(policy(rounding), bank, &mut out[0..room]))
+    written(write_stored(policy(rounding, allowance), bank, &mut out[0..room]))
 }
 
 // The example's request.

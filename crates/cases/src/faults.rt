@@ -1,6 +1,6 @@
 // What can be wrong with an input, in the order in which it is tested: 20 to 22 field by field, 19, 10 for each limit of the policy, 11, the
 // first model's 13 and 14, the second one's 12, 13 and 14, then 15, then 3 for each field of the request, and 5 for an id that isn't listed.
-// Tag 4 has its faults in `rounded`.
+// Tag 4 has its faults in `rounded`, and tag 5 in `allowed`.
 ghost use Prim.Native.Nat.{_+_, _≤_};
 use crate::answers::UNIT;
 

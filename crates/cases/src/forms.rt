@@ -1,6 +1,11 @@
 // The groups of the stored form and the request form, with how many numbers each has: 1 to 4 are the kinds of damage, with an even number to
-// the stored form and with an odd one to the request form; 11 to 15 are the kinds of damage to the field that says how a policy rounds, through every
-// call that reads it. What a number of another group stands for is said by the function that `case_of` hands it to.
+// the stored form and with an odd one to the request form; 13 to 17 are the kinds of damage to the field that says how a policy rounds, and 18 to 21
+// those to the one that says its allowance, through every call that reads it. What a number of another group stands for is said by the function that
+// `case_of` hands it to.
+use crate::allowed::LONGEST;
+use crate::allowed::allowed;
+use crate::allowed::allowed_numbers;
+use crate::allowed::longest;
 use crate::banks::LENGTHS;
 use crate::damage::numbers_of;
 use crate::reading::damaged_request;
@@ -11,6 +16,7 @@ use crate::rounded::rounded_numbers;
 use crate::tally::Seen;
 use crate::tally::Tally;
 use crate::tally::noted;
+use crate::writing::FREE_ROOMS;
 use crate::writing::ONCE_ROOMS;
 use crate::writing::REQUEST_ROOMS;
 use crate::writing::SIZE_ROOMS;
@@ -18,6 +24,7 @@ use crate::writing::SIZES;
 use crate::writing::STORED_ROOMS;
 use crate::writing::VAST;
 use crate::writing::VAST_ROOMS;
+use crate::writing::free_room;
 use crate::writing::once_room;
 use crate::writing::request_room;
 use crate::writing::size;
@@ -26,10 +33,12 @@ use crate::writing::vast;
 use std::num::wrapping_add_u64;
 use std::num::wrapping_sub_u64;
 
-const GROUPS: u64 = 15;
+const GROUPS: u64 = 21;
 
-// The groups before the kinds of damage to the field that says how a policy rounds.
-const BEFORE_ROUNDED: u64 = 10;
+// The groups before the kinds of damage to the field that says how a policy rounds, and before those to the one that says its allowance.
+const BEFORE_ROUNDED: u64 = 12;
+
+const BEFORE_ALLOWED: u64 = 17;
 
 // The groups of what is printed come before these.
 const PRINTED: u64 = 10;
@@ -44,7 +53,10 @@ fn size_of(group: u64) -> usize {
         8 => SIZES * SIZE_ROOMS,
         9 => VAST * VAST_ROOMS,
         10 => ONCE_ROOMS,
-        _ => rounded_numbers(wrapping_sub_u64(group, BEFORE_ROUNDED)),
+        11 => FREE_ROOMS * 2,
+        12 => LONGEST,
+        13..=17 => rounded_numbers(wrapping_sub_u64(group, BEFORE_ROUNDED)),
+        _ => allowed_numbers(wrapping_sub_u64(group, BEFORE_ALLOWED)),
     }
 }
 
@@ -66,7 +78,10 @@ fn case_of(group: u64, number: usize) -> Seen {
         8 => size(number),
         9 => vast(number),
         10 => once_room(number),
-        _ => rounded(wrapping_sub_u64(group, BEFORE_ROUNDED), number),
+        11 => free_room(number),
+        12 => longest(number),
+        13..=17 => rounded(wrapping_sub_u64(group, BEFORE_ROUNDED), number),
+        _ => allowed(wrapping_sub_u64(group, BEFORE_ALLOWED), number),
     }
 }
 

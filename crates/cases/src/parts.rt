@@ -3,8 +3,8 @@ use rules::KernelInput;
 use rules::PolicySnapshot;
 use rules::Rounding;
 
-// Its policy, with how it rounds.
-pub(crate) fn policy(rounding: Rounding) -> PolicySnapshot {
+// Its policy, with how it rounds and its allowance.
+pub(crate) fn policy(rounding: Rounding, latency_allowance_ms: u32) -> PolicySnapshot {
     PolicySnapshot {
         policy_epoch: 7,
         catalog_epoch: 3,
@@ -13,6 +13,7 @@ pub(crate) fn policy(rounding: Rounding) -> PolicySnapshot {
         risk_penalty_multiplier_bps: 10_000,
         latency_penalty_microunits_per_ms: 10,
         rounding,
+        latency_allowance_ms,
     }
 }
 

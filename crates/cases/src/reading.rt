@@ -18,25 +18,26 @@ use crate::marks::settled;
 use crate::tally::Seen;
 use crate::tally::judged;
 
-// Reads a stored form with the example's bank, and its policy that rounds so, into the first bytes of a buffer. Too little room comes last.
-fn reads_in(form: &[u8], number: u8, rounding: u8, room: usize) -> bool
+// Reads a stored form with the example's bank, and its policy that rounds so and has this allowance, into the first bytes of a buffer. Too little
+// room comes last.
+fn reads_in(form: &[u8], number: u8, rounding: u8, allowance: u32, room: usize) -> bool
     requires { ⌜ room ≤ 120 ⌝ }
 {
     let input = example();
     let mut buffer = [MARK; 120];
-    let told = read_into(form, rounding, &mut buffer, room);
+    let told = read_into(form, rounding, allowance, &mut buffer, room);
     settled(told, number, &buffer, &input[MODELS..AFTER_BANK], room)
 }
 
 // Into more than enough room, one byte less than enough, and none.
-pub(crate) fn reads_stored(form: &[u8], number: u8, rounding: u8) -> bool {
-    if !reads_in(form, number, rounding, 120) {
+pub(crate) fn reads_stored(form: &[u8], number: u8, rounding: u8, allowance: u32) -> bool {
+    if !reads_in(form, number, rounding, allowance, 120) {
         return false;
     }
-    if !reads_in(form, number, rounding, 93) {
+    if !reads_in(form, number, rounding, allowance, 93) {
         return false;
     }
-    reads_in(form, number, rounding, 0)
+    reads_in(form, number, rounding, allowance, 0)
 }
 
 // Reads a request form, which needs no room.
@@ -56,7 +57,7 @@ pub(crate) fn damaged_stored(kind: u64, number: usize) -> Seen {
     if case.number == NO_CASE {
         return Seen::NoCase;
     }
-    judged(reads_stored(&input[0..end], case.number, 0))
+    judged(reads_stored(&input[0..end], case.number, 0, 0))
 }
 
 // Then to the request form.
@@ -77,7 +78,7 @@ pub(crate) fn long(number: usize) -> Seen {
     let mut input = [0u8; SPACE];
     let mut buffer = [MARK; SPACE];
     put_long(&mut input, size);
-    let told = read_into(&input[0..end], 0, &mut buffer, SPACE);
+    let told = read_into(&input[0..end], 0, 0, &mut buffer, SPACE);
     judged(settled(
         told,
         length_answer(size, 0),

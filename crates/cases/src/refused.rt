@@ -140,10 +140,15 @@ fn names_form(input: &[u8], id: u32, number: u8) -> bool {
             id,
             b"refused 22\nA field of the input has a length that its tag does not have.\n",
         ),
-        _ => says(
+        23 => says(
             input,
             id,
             b"refused 23\nThe input's rounding, under tag 4, is not 1.\n",
+        ),
+        _ => says(
+            input,
+            id,
+            b"refused 25\nThe input's latency allowance, under tag 5, is 0.\n",
         ),
     }
 }
@@ -155,7 +160,7 @@ fn names_fault(input: &[u8], id: u32, number: u8, variant: u8) -> bool {
         10 => names_policy(input, id, variant),
         13 => names_provider(input, id, variant),
         14 => names_range(input, id, variant),
-        20..=23 => names_form(input, id, number),
+        20..=25 => names_form(input, id, number),
         _ => names_list(input, id, number),
     }
 }

@@ -1,75 +1,25 @@
-// What can be wrong with the field that says how a policy rounds, in the example that rounds once. It is read by the calls that print, and by the
-// reader of stored forms, which takes what stands before the request.
-ghost use mathlib.Core.Path.{_≡_};
+// What can be wrong with the field that says how a policy rounds, in the example that rounds once; and every order of fields.
 ghost use Prim.Native.Nat.{_+_, _≤_};
 ghost use lib.ListN.{length};
-use crate::answers::CALLS;
-use crate::answers::EACH_ROOM;
 use crate::damage::NO_CASE;
 use crate::example::AFTER_BANK;
 use crate::example::BANK;
 use crate::once::AFTER_ROUNDING;
 use crate::once::ONCE_END;
-use crate::once::is_once;
 use crate::once::put_once;
 use crate::orders::ORDERS;
-use crate::orders::is_order;
-use crate::orders::put_fields;
-use crate::reading::reads_stored;
-use crate::refused::refuses;
+use crate::orders::order;
+use crate::owing::Owed;
+use crate::owing::READERS;
+use crate::owing::STORED;
+use crate::owing::answered;
+use crate::owing::refused;
+use crate::owing::seen;
 use crate::tally::Seen;
-use crate::tally::judged;
-use crate::texts::is_example;
 use endian_writing::put16;
 
 // Room for every input that is made here.
 const SPACE: usize = 600;
-
-// The readers by their numbers: the calls that print, then the stored form's.
-const READERS: usize = 4;
-
-const STORED: usize = 3;
-
-// What a reader is to do: where its bytes end, the number that it owes, and where that is 0 whether its answer is the example's that rounds
-// apart (0) or once (1).
-struct Owed {
-    end: usize,
-    number: u8,
-    rounding: u8,
-}
-
-// A refusal.
-fn refused(end: usize, number: u8) -> Owed
-    ensures { λ r. ⌜ r .end ≡ end ⌝ }
-{
-    Owed {
-        end,
-        number,
-        rounding: 0,
-    }
-}
-
-// The example's answer, rounding apart.
-fn apart(end: usize) -> Owed
-    ensures { λ r. ⌜ r .end ≡ end ⌝ }
-{
-    Owed {
-        end,
-        number: 0,
-        rounding: 0,
-    }
-}
-
-// The example's answer, rounding once.
-fn once(end: usize) -> Owed
-    ensures { λ r. ⌜ r .end ≡ end ⌝ }
-{
-    Owed {
-        end,
-        number: 0,
-        rounding: 1,
-    }
-}
 
 // Where a reader's whole form ends.
 fn whole_for(reader: usize) -> usize
@@ -86,7 +36,7 @@ fn cut_after_models(reader: usize) -> Owed
     ensures { λ r. ⌜ r .end ≤ 600 ⌝ }
 {
     if reader == STORED {
-        return apart(AFTER_BANK);
+        return answered(AFTER_BANK, 0, 0);
     }
     refused(AFTER_BANK, 21)
 }
@@ -101,7 +51,7 @@ fn cut(reader: usize, end: usize) -> Owed
         return refused(end, NO_CASE);
     }
     if end == whole {
-        return once(end);
+        return answered(end, 1, 0);
     }
     match end {
         130 => cut_after_models(reader),
@@ -110,9 +60,9 @@ fn cut(reader: usize, end: usize) -> Owed
     }
 }
 
-// Another tag in its place: one too many for the stored form, and for the programs the request's, of which 3 has a wrong length.
+// Another tag in its place: 5 has a wrong length, and of the programs 3 too, which is the request's; any other is one too many.
 fn tag_answer(reader: usize, value: u8) -> u8 {
-    if reader != STORED && value == 3 {
+    if value == 5 || (reader != STORED && value == 3) {
         return 22;
     }
     21
@@ -138,42 +88,28 @@ fn byte(out: &mut [u8], reader: usize, number: usize) -> Owed
     let right = out[AFTER_BANK + which];
     out[AFTER_BANK + which] = value;
     if value == right {
-        return once(whole);
+        return answered(whole, 1, 0);
     }
     refused(whole, byte_answer(reader, which, value))
 }
 
-// Kind 3: one byte after the end, of every value; another byte 4 too is one too many.
+// After a stored form a byte 5 begins a field, which is cut; any other byte is one too many, another 4 too.
+fn tail_answer(reader: usize, value: u8) -> u8 {
+    if reader == STORED && value == 5 {
+        return 20;
+    }
+    21
+}
+
+// Kind 3: one byte after the end, of every value.
 fn tail(out: &mut [u8], reader: usize, number: usize) -> Owed
     requires { ⌜ 600 ≤ length (now out) ⌝ }
     ensures { λ r. ⌜ r .end ≤ 600 ⌝ }
 {
     let whole = whole_for(reader);
-    out[whole] = (number % 256) as u8;
-    refused(whole + 1, 21)
-}
-
-// The order that a reader takes: tags 1, 2, 4, 3 (990), or 1, 2, 4 (975).
-fn right_code(reader: usize) -> usize {
-    if reader == STORED {
-        return 975;
-    }
-    990
-}
-
-// Kind 4: up to five whole fields in any order, tag 4 among them. One that is out of place, repeated or missing is 21.
-fn order(out: &mut [u8], reader: usize, code: usize) -> Owed
-    requires { ⌜ 600 ≤ length (now out) ⌝ }
-    ensures { λ r. ⌜ r .end ≤ 600 ⌝ }
-{
-    let end = put_fields(out, code);
-    if !is_order(code) {
-        return refused(end, NO_CASE);
-    }
-    if code == right_code(reader) {
-        return once(end);
-    }
-    refused(end, 21)
+    let value = (number % 256) as u8;
+    out[whole] = value;
+    refused(whole + 1, tail_answer(reader, value))
 }
 
 const OTHERS: usize = 9;
@@ -251,7 +187,7 @@ fn other(out: &mut [u8], reader: usize, which: usize) -> Owed
 
 // How many inputs each kind has.
 fn inputs_of(kind: u64) -> usize
-    ensures { λ r. ⌜ r ≤ 3125 ⌝ }
+    ensures { λ r. ⌜ r ≤ 7776 ⌝ }
 {
     match kind {
         1 => ONCE_END + 1,
@@ -282,28 +218,10 @@ fn put_damaged(out: &mut [u8], reader: usize, kind: u64, number: usize) -> Owed
     }
 }
 
-// Whether a call prints what is owed for an input.
-fn is_printed(call: u8, input: &[u8], number: u8, rounding: u8) -> bool {
-    if number != 0 {
-        return refuses(call, input, 1, number, 0);
-    }
-    if rounding == 0 {
-        return is_example(call, input, 1, EACH_ROOM);
-    }
-    is_once(call, input)
-}
-
 // A number of a kind, through one reader.
 pub(crate) fn rounded(kind: u64, number: usize) -> Seen {
     let reader = number % READERS;
     let mut input = [0u8; SPACE];
     let owed = put_damaged(&mut input, reader, kind, number / READERS);
-    let end = owed.end;
-    if owed.number == NO_CASE {
-        return Seen::NoCase;
-    }
-    if reader < CALLS {
-        return judged(is_printed(reader as u8, &input[0..end], owed.number, owed.rounding));
-    }
-    judged(reads_stored(&input[0..end], owed.number, owed.rounding))
+    seen(reader, &input, owed)
 }

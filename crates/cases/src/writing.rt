@@ -10,6 +10,10 @@ use crate::example::AFTER_BANK;
 use crate::example::END;
 use crate::example::MODELS;
 use crate::example::example;
+use crate::free::ALLOWANCE;
+use crate::free::FIELD;
+use crate::free::field_place;
+use crate::free::put_free;
 use crate::marks::MARK;
 use crate::marks::settled;
 use crate::once::AFTER_ROUNDING;
@@ -19,19 +23,21 @@ use crate::tally::Seen;
 use crate::tally::judged;
 use rules::Rounding;
 
-// Rooms up to two bytes more than each form has, also that of a policy that rounds once.
+// Rooms up to two bytes more than each form has, also that of a policy that rounds once, and that of one with an allowance, by either rounding.
 pub(crate) const STORED_ROOMS: usize = 133;
 
 pub(crate) const REQUEST_ROOMS: usize = 76;
 
 pub(crate) const ONCE_ROOMS: usize = 137;
 
+pub(crate) const FREE_ROOMS: usize = 144;
+
 // Writes a bank that stands in a form, as it does in every input, into the first bytes of a buffer that is all marks.
 fn writes(form: &[u8], size: usize, out: &mut [u8], room: usize) -> bool
     requires { ⌜ (36 + size ≤ length (now form)) × (size ≤ 65612) × (room ≤ length (now out)) ⌝ }
 {
     let end = MODELS + size;
-    let told = write_into(Rounding::Apart, &form[MODELS..end], out, room);
+    let told = write_into(Rounding::Apart, 0, &form[MODELS..end], out, room);
     settled(told, size_answer(size), out, &form[0..end], room)
 }
 
@@ -58,9 +64,42 @@ pub(crate) fn once_room(number: usize) -> Seen {
     let mut input = [0u8; ONCE_END];
     put_once(&mut input);
     let mut out = [MARK; ONCE_ROOMS];
-    let told = write_into(Rounding::Once, &input[MODELS..AFTER_BANK], &mut out, room);
+    let told = write_into(
+        Rounding::Once,
+        0,
+        &input[MODELS..AFTER_BANK],
+        &mut out,
+        room,
+    );
     judged(settled(told, 0, &out, &input[0..AFTER_ROUNDING], room))
 }
+
+// Group 11: the same with an allowance, whose form has seven bytes more, by either rounding.
+pub(crate) fn free_room(number: usize) -> Seen {
+    let room = number / 2 % FREE_ROOMS;
+    let once = number % 2 == 1;
+    let said = once as u8;
+    let end = field_place(said) + FIELD;
+    let mut input = [0u8; FREE_END];
+    put_free(&mut input, said);
+    let mut out = [MARK; FREE_ROOMS];
+    let rounding = if once {
+        Rounding::Once
+    } else {
+        Rounding::Apart
+    };
+    let told = write_into(
+        rounding,
+        ALLOWANCE,
+        &input[MODELS..AFTER_BANK],
+        &mut out,
+        room,
+    );
+    judged(settled(told, 0, &out, &input[0..end], room))
+}
+
+// Where the example ends with an allowance, after tag 4.
+const FREE_END: usize = 214;
 
 // Each length of a bank that group 8 tries, with four rooms.
 pub(crate) const SIZES: usize = 14;
@@ -158,6 +197,6 @@ pub(crate) fn vast(number: usize) -> Seen {
     let room = SPACE * (number % VAST_ROOMS);
     let bank = vast_bank();
     let mut out = [MARK; SPACE];
-    let told = write_into(Rounding::Apart, &bank[0..size], &mut out, room);
+    let told = write_into(Rounding::Apart, 0, &bank[0..size], &mut out, room);
     judged(settled(told, size_answer(size), &out, b"", room))
 }

@@ -9,7 +9,7 @@ use Rattle.pricing.specs.declared.Pricing.{Pricing}
 use Rattle.kernel_verdict.specs.declared.Candidate.{Candidate}
 use Rattle.counterfactual_pass.specs.Asked.{winsBy}
 
--- The place and the id of the model that is varied, the best of the others, and what is settled, as fourteen numbers say them
+-- The place and the id of the model that is varied, the best of the others, and what is settled, as fifteen numbers say them
 abbrev pub placeIn : List ℕ → ℕ
 placeIn ns = getD ns 0 0 % 2 ^ 16
 
@@ -38,6 +38,7 @@ pricingIn ns =
       «risk_penalty» = record { hi = getD ns 10 0; lo = getD ns 11 0 };
       «latency_pen_per_ms» = getD ns 12 0;
       rounding = roundingIn ns;
+      «latency_allowance_ms» = getD ns 14 0 % 2 ^ 32;
     }
 
 -- Whether the model of some bytes, with a lever at a value, wins

@@ -25,8 +25,8 @@ use rules::limits::ModelBytes;
 use rules::limits::RequestBytes;
 
 // The place and the id of the model that is varied; the best of the others: id, place, quality, cost, score; what is settled: value,
-// confidence, quality prefix, the risk term's limbs, the latency penalty, how a cost is rounded.
-pub type Held = [u64; 14];
+// confidence, quality prefix, the risk term's limbs, the latency penalty, how a cost is rounded, the allowance.
+pub type Held = [u64; 15];
 
 // The numbers that say them.
 fn held_numbers(place: u16, id: u32, rival: Candidate, pricing: Pricing) -> Held
@@ -49,6 +49,7 @@ fn held_numbers(place: u16, id: u32, rival: Candidate, pricing: Pricing) -> Held
         risk.lo,
         pricing.latency_pen_per_ms,
         rounding.number() as u64,
+        pricing.latency_allowance_ms as u64,
     ]
 }
 
@@ -113,6 +114,7 @@ fn pricing_in(held: &Held) -> Pricing
         risk_penalty,
         latency_pen_per_ms: held[12],
         rounding,
+        latency_allowance_ms: (held[14] % 0x1_0000_0000) as u32,
     }
 }
 

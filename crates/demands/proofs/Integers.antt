@@ -1,5 +1,5 @@
 -- The order of integers as a type, and what keeps it: taking numbers away, and holding within i64. Assumes nothing.
-use Rattle.rules.proofs.Kit.{ℕ, zero, suc, _+_, _≤_, _<_, _≡_, refl, sym, ap, Bool, true, false, cond, false≢true, decLt, arith, lt-ltb, le-ltb, lt-leb}
+use Rattle.rules.proofs.Kit.{ℕ, zero, suc, _+_, _≤_, _<_, _≡_, refl, sym, ap, Bool, true, false, cond, false≢true, decLt, arith, lt-ltb, le-ltb, le-leb, lt-leb}
 use Rattle.rules.proofs.Kit.{leb-false, ltb, ℤ, pos, negsuc, subℕ, _-ℤ_, ltZ, leZ}
 use Rattle.rules.proofs.Integers.{sub-is}
 use Rattle.rules.specs.{Choice.higher, Choice.lower, Utility.held}
@@ -49,6 +49,12 @@ held-up (negsuc m) (pos n) h = tt
 held-up (negsuc m) (negsuc n) h = omega arith
 
 -- ---- the tests
+
+pub at-most-tests : (x y : ℤ) → AtMost x y → leZ x y ≡ true
+at-most-tests (pos m) (pos n) h = le-leb m n h
+at-most-tests (pos m) (negsuc n) h = absurd h
+at-most-tests (negsuc m) (pos n) h = refl
+at-most-tests (negsuc m) (negsuc n) h = le-leb n m h
 
 not-above : (x y : ℤ) → AtMost x y → ltZ y x ≡ false
 not-above (pos m) (pos n) h = le-ltb n m h

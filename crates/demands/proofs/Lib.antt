@@ -17,6 +17,7 @@ pub mod Exact
 pub mod Integers
 pub mod Terms
 pub mod Rounding
+pub mod Allowance
 pub mod Eligible
 pub mod Favours
 pub mod Firsts
@@ -33,6 +34,7 @@ pub mod Validated
 pub mod ToldPrice
 pub mod BoundariesExample
 pub mod OnceExample
+pub mod AllowanceExample
 pub mod SettingsExample
 pub mod Renaming
 pub mod MovedAnswers

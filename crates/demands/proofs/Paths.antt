@@ -1,6 +1,6 @@
 -- THE FAST AND THE SLOW PATHS AGREE: whichever of its two ways of computing the Rust takes, cost, terms and utility are those of the rules
--- (D21), where they round apart as it does. Assumed: a model is one of the catalogue, and fields are within the Rust's types. `Widths` adds that
--- i128 holds the slow numbers.
+-- (D21), where they round apart as it does and no millisecond is free, since it knows no allowance. Assumed: a model is one of the catalogue, and
+-- fields are within the Rust's types. `Widths` adds that i128 holds the slow numbers.
 use Rattle.rules.proofs.Kit.{ℕ, min, _*_, _/_, _^_, _<_, _≡_, refl, sym, ap, _∙_, true, List, List·Memᴰ, some, bind-eq-some-iff, mod-eq-of-lt, lt-of-le-of-lt}
 use Rattle.rules.proofs.Kit.{mul-le-mul-left, mul-le-mul-right, arith}
 use Rattle.rules.specs.{Limits.scaledBasisPoints, Limits.maxU64, Price.billedBoth, Price.costOf, Utility.orZero, Utility.shareOf, Utility.qualityTermOf}
@@ -8,13 +8,14 @@ use Rattle.rules.specs.{Utility.riskTermOf, Utility.latencyTermOf, Utility.exac
 use Rattle.rules.specs.{declared.records.KernelInput.KernelInput, declared.records.PolicySnapshot.PolicySnapshot}
 use Rattle.rules.specs.declared.records.Rounding.the-variants.{Apart}
 use Rattle.demands.specs.{Machine.wrappingMul, Widths.ModelTyped, Widths.RequestTyped, Paths.maxQuality, Paths.modelCostFast, Paths.modelCostReference}
+use Rattle.demands.specs.Allowance.{termInFull}
 use Rattle.demands.specs.{Paths.allCostsFit, Paths.scaledTermReference, Paths.scaledTermExact, Paths.qualityPrefix, Paths.qualityTermFast}
 use Rattle.demands.specs.{Paths.qualityTermReference, Paths.allLatenciesFit, Paths.latencyTermFast, Paths.latencyTermReference, Paths.pricingCost}
 use Rattle.demands.specs.{Paths.pricingQuality, Paths.pricingRisk, Paths.pricingLatency, Paths.pricingUtility, Paths.referenceUtility}
 use Rattle.demands.proofs.{Laws.at-most-largest, Laws.checked-some, Laws.is-some, Laws.kept, Laws.either-way, Laws.by-test, Costs.costs-fit}
-use Rattle.demands.proofs.{Costs.sum-fast, Costs.sum-reference}
+use Rattle.demands.proofs.{Costs.sum-fast, Costs.sum-reference, Allowance.none-is}
 
--- ---- the slow ways are the rules, always
+-- ---- the slow ways are the rules
 
 -- Demand 2, cost. The slow cost is the rule's cost, rounded apart
 pub cost-reference : (m : KernelModel) (q : KernelInput) → ModelTyped m → RequestTyped q → modelCostReference m q ≡ costOf Apart m q
@@ -31,10 +32,10 @@ pub quality-reference : (m : KernelModel) (q : KernelInput) → qualityTermRefer
 unfolding qualityTermReference qualityTermOf
 quality-reference m q = scaled-reference _ _ _
 
--- Demand 2, terms. The slow latency term is the rule's
-pub latency-reference : (p : PolicySnapshot) (m : KernelModel) → latencyTermReference p m ≡ latencyTermOf p m
-unfolding latencyTermReference latencyTermOf
-latency-reference p m = refl
+-- Demand 2, terms. The slow latency term is the rule's, where there is no allowance
+pub latency-reference : (p : PolicySnapshot) (m : KernelModel) → p .«latency_allowance_ms» ≡ 0 → latencyTermReference p m ≡ latencyTermOf p m
+unfolding latencyTermReference termInFull
+latency-reference p m none = sym (none-is p none m)
 
 -- ---- the fast share
 
@@ -92,21 +93,22 @@ module _ (ms : List KernelModel) (m : KernelModel) (q : KernelInput) (among : Li
   quality-way = either-way _ _ _ quality-paths ∙ quality-reference m q
 
 module _ (p : PolicySnapshot) (ms : List KernelModel) (m : KernelModel) (among : List·Memᴰ m ms) where
-  -- Demand 2, terms. Where the highest latency's term fits, the fast latency term is the rule's
-  pub latency-fast : allLatenciesFit p ms ≡ true → latencyTermFast p m ≡ latencyTermOf p m
-  unfolding latencyTermFast latencyTermOf allLatenciesFit wrappingMul
-  latency-fast fit =
+  -- Demand 2, terms. Where the highest latency's term fits, the fast latency term is the slow one
+  pub latency-paths : allLatenciesFit p ms ≡ true → latencyTermFast p m ≡ latencyTermReference p m
+  unfolding latencyTermFast latencyTermReference allLatenciesFit wrappingMul
+  latency-paths fit =
       let (n, e) = is-some _ fit in
       let most = mul-le-mul-right (p .«latency_penalty_microunits_per_ms») (at-most-largest (λ m. m .«p95_latency_ms») among) in
       mod-eq-of-lt (lt-of-le-of-lt most (checked-some _ n e .0))
 
-  -- Demand 2, terms. So the fast latency term is the slow one
-  pub latency-paths : allLatenciesFit p ms ≡ true → latencyTermFast p m ≡ latencyTermReference p m
-  latency-paths fit = latency-fast fit ∙ sym (latency-reference p m)
+  module _ (none : p .«latency_allowance_ms» ≡ 0) where
+    -- Demand 2, terms. So, where there is no allowance, it is the rule's
+    pub latency-fast : allLatenciesFit p ms ≡ true → latencyTermFast p m ≡ latencyTermOf p m
+    latency-fast fit = latency-paths fit ∙ latency-reference p m none
 
-  latency-way : pricingLatency p ms m ≡ latencyTermOf p m
-  unfolding pricingLatency
-  latency-way = by-test _ _ _ latency-paths ∙ latency-reference p m
+    latency-way : pricingLatency p ms m ≡ latencyTermOf p m
+    unfolding pricingLatency
+    latency-way = by-test _ _ _ latency-paths ∙ latency-reference p m none
 
 risk-way : (p : PolicySnapshot) (q : KernelInput) → pricingRisk p q ≡ riskTermOf p q
 unfolding pricingRisk riskTermOf
@@ -114,13 +116,13 @@ risk-way p q = scaled-paths _ _ _ ∙ scaled-reference _ _ _
 
 -- ---- the utility
 
-module _ (p : PolicySnapshot) (m : KernelModel) (q : KernelInput) (mt : ModelTyped m) (qt : RequestTyped q) where
+module _ (p : PolicySnapshot) (m : KernelModel) (q : KernelInput) (mt : ModelTyped m) (qt : RequestTyped q) (none : p .«latency_allowance_ms» ≡ 0) where
   -- Demand 2, utility. For every model of a catalogue, `Pricing` computes the rule's utility, whichever way each test chooses
   pub utility-paths : (ms : List KernelModel) → List·Memᴰ m ms → pricingUtility p ms m q ≡ utilityOf p m q (costOf Apart m q)
   unfolding pricingUtility utilityOf exactUtilityOf
-  utility-paths ms among = rw (quality-way ms m q among, risk-way p q, cost-way ms m q among mt qt, latency-way p ms m among)
+  utility-paths ms among = rw (quality-way ms m q among, risk-way p q, cost-way ms m q among mt qt, latency-way p ms m among none)
 
   -- Demand 2, utility. And so do the slow ways alone
   pub utility-reference : referenceUtility p m q ≡ utilityOf p m q (costOf Apart m q)
   unfolding referenceUtility utilityOf exactUtilityOf riskTermOf
-  utility-reference = rw (quality-reference m q, scaled-reference, cost-reference m q mt qt, latency-reference p m)
+  utility-reference = rw (quality-reference m q, scaled-reference, cost-reference m q mt qt, latency-reference p m none)

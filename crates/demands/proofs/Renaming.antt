@@ -4,7 +4,8 @@
 use Rattle.rules.proofs.Kit.{ℕ, _≤_, _<_, _≡_, refl, sym, ap, _∙_, Bool, true, false, cond, List, [], _∷_, map, foldl, ⊎-elim, arith, ltb-true, ltb-false}
 use Rattle.rules.proofs.Kit.{lt-ltb, le-ltb, ltb, eqb, length, length-map}
 use Rattle.rules.specs.{Choice.below, Choice.equal, Choice.lower, Order.insertBy, Order.sortedBy, Records.Listed, Numbers.Decision, Price.Cost}
-use Rattle.rules.specs.{Utility.riskTermOf, Utility.latencyTermOf, Utility.exactUtilityOf, Utility.utilityOf, Verdict.byUtility, Verdict.verdictCosting}
+use Rattle.rules.specs.{Utility.riskTermOf, Utility.chargedMs, Utility.latencyTermOf, Utility.exactUtilityOf, Utility.utilityOf}
+use Rattle.rules.specs.{Verdict.byUtility, Verdict.verdictCosting}
 use Rattle.rules.specs.{Verdict.Judged, Verdict.judgedBy, Rank.Candidate, Rank.candidateOf, Rank.better, Rank.eligibles, Rank.ranking, Count.countedFor}
 use Rattle.rules.specs.{Count.reasonsOf, Count.countsFrom, Count.countsOf, Count.dominantOf, Decide.stoppedBy, Decide.rejection, Decide.executedAs}
 use Rattle.rules.specs.{Decide.counterfactualId, Decide.counterfactualWorth, Decide.chosen, Decide.byRanking, Decide.byVerdicts, Decide.decisionBy}
@@ -91,7 +92,7 @@ module _ (epoch : ℕ) (p : PolicySnapshot) (q : KernelInput) where
   same-stopped = refl
 
   pub same-verdict : (m : KernelModel) (cost : ℕ) → verdictCosting (policyAt epoch p) q m cost ≡ verdictCosting p q m cost
-  unfolding verdictCosting byUtility utilityOf exactUtilityOf riskTermOf latencyTermOf
+  unfolding verdictCosting byUtility utilityOf exactUtilityOf riskTermOf latencyTermOf chargedMs
   same-verdict m cost = refl
 
   pub same-judged : (costs : Cost) (ls : List Listed) → judgedBy costs (policyAt epoch p) q ls ≡ judgedBy costs p q ls

@@ -1,5 +1,6 @@
 -- The Rust's fast and slow ways to a model's cost and terms, as it computes them: `Pricing` and the functions that it calls. A catalogue
--- is a list of models; its four maxima are the Rust's, and the tests that choose a way are over them.
+-- is a list of models; its four maxima are the Rust's, and the tests that choose a way are over them. The Rust knows no allowance: every millisecond
+-- is charged.
 use Prim.Native.Nat.{ℕ, max, min, _-_, _*_, _/_}
 use mathlib.Core.Bool.{Bool, cond}
 use mathlib.Core.List.{List, [], _∷_}

@@ -2,7 +2,7 @@
 -- Assumes nothing.
 use Rattle.rules.proofs.Kit.{ℕ, suc, _+_, _-_, _*_, _/_, _%_, _<_, _≤_, _≡_, refl, sym, ap, _∙_, Bool, true, false, not, _||_, List, [], _∷_, _++_}
 use Rattle.rules.proofs.Kit.{arith, add-one, append-assoc, eqb, ltb, length}
-use Rattle.rules.specs.{Limits.maxU32, Limits.policyBytes, Bytes.numberAt, Refused.Fault, Refused.Faults, Refused.fault, Refused.inputFault}
+use Rattle.rules.specs.{Limits.maxU32, Bytes.numberAt, Refused.Fault, Refused.Faults, Refused.fault, Refused.inputFault}
 use Rattle.rules.specs.{Refused.refuseIf, Refused.firstFault, Refused.unless}
 use Rattle.rules.specs.{Refused.lengthFaults, Refused.sizeFaults, Refused.roomFaults, Refused.toldRefusal, Refused.toldOutcome, Decide.requestFaults}
 use Rattle.rules.specs.{Batch.requestsFaults, Batch.batchFaultsOver, Listing.everyRecord, Decide.tooHigh, Stored.policySizeFaults}
@@ -10,7 +10,7 @@ use Rattle.rules.specs.{Stored.roundingFaults, Stored.policyByteFaults}
 use Rattle.rules.specs.{declared.records.KernelInput.KernelInput, declared.refusal.Refusal.Refusal, declared.refusal.Outcome.Outcome}
 use Rattle.rules.specs.{declared.refusal.Outcome.the-variants.Answered, declared.refusal.Outcome.the-variants.Refused}
 use Rattle.rules.proofs.Faults.{none-first, none-after, below-none, none-told, unless-refused, append-refused, room-passed, few-records}
-use Rattle.unpacking_policy.proofs.Policies.{policy-long}
+use Rattle.unpacking_policy.proofs.Policies.{policy-sized}
 use Rattle.export_checks.specs.Checks.{wordAt}
 use Rattle.export_checks.proofs.Tests.{size-is}
 use Rattle.export_batch.specs.Batches.{LentRow, requestAt, requestsFrom, requestsOf, rowSizeFaults, rowFaults, batchCallFaults}
@@ -81,7 +81,8 @@ size-placeless size count = each-both Placeless _ _ (plain (ltb maxU32 count) 22
 policy-placeless : (s : List ℕ) → Each Placeless (policyByteFaults s)
 unfolding policySizeFaults roundingFaults
 policy-placeless s =
-    each-both Placeless _ _ (plain (not (eqb (length s) 30 || eqb (length s) 31)) 22) (plain (ltb 1 (numberAt s 30 1)) 23)
+    let sized = eqb (length s) 30 || eqb (length s) 31 || eqb (length s) 35 in
+    each-both Placeless _ _ (plain (not sized) 22) (plain (ltb 1 (numberAt s 30 1)) 23)
 
 bank-placeless : (n : ℕ) → Each Placeless (lengthFaults n)
 unfolding lengthFaults
@@ -192,8 +193,8 @@ module _ (l : LentRow) (room : ℕ) where
     unfolding rowSizeFaults
     passed-requests = size-is _ _ (none-after (refuseIf (ltb maxU32 (l .count)) (fault 22)) _ size)
 
-    pub passed-policy : policyBytes ≤ length (l .policy)
-    passed-policy = policy-long (l .policy) (none-after (rowSizeFaults (length (l .requests)) (l .count)) _ row)
+    pub passed-policy : policySizeFaults (l .policy) ≡ []
+    passed-policy = policy-sized (l .policy) (none-after (rowSizeFaults (length (l .requests)) (l .count)) _ row)
 
     pub passed-bank : length (l .bank) / 47 ≤ 65535
     passed-bank = few-records (length (l .bank)) (none-first _ _ over)

@@ -1,10 +1,9 @@
 -- What tests that hand nothing back tell: the lengths, the bank, the room. Assumes nothing.
 use Rattle.rules.proofs.Kit.{ℕ, _<_, _≤_, _≡_, List, [], _∷_, _++_, arith, eq-eqb, ne-eqb, lt-ltb, length}
 use Rattle.rules.specs.{Limits.policyBytes, Limits.requestBytes, Limits.maxCatalogModels, Records.recordsIn, Refused.Faults, Refused.fault}
-use Rattle.rules.specs.{Refused.bankFaults, Refused.sizeFaults}
-use Rattle.rules.specs.{Refused.roomFaults, Stored.policyByteFaults}
+use Rattle.rules.specs.{Refused.bankFaults, Refused.sizeFaults, Refused.roomFaults, Stored.policySizeFaults, Stored.policyByteFaults}
 use Rattle.rules.proofs.Faults.{none-first, none-after, equal-none, room-passed, few-records}
-use Rattle.unpacking_policy.proofs.Policies.{policy-long}
+use Rattle.unpacking_policy.proofs.Policies.{policy-sized, policy-long}
 use Rattle.export_checks.specs.Checks.{Lent, thenRoom, afterPolicy, afterRequest, lentFaults, callFaults}
 
 module _ (have want : ℕ) where
@@ -39,8 +38,11 @@ module _ (bank : Faults) (needed room : ℕ) (e : thenRoom bank needed room ≡ 
   then-room = room-passed needed room (none-after bank (roomFaults needed room) e)
 
 module _ (policy : List ℕ) (bank : Faults) (needed room : ℕ) (e : afterPolicy policy bank needed room ≡ []) where
-  pub after-policy : policyBytes ≤ length policy
-  after-policy = policy-long policy (none-first _ _ e)
+  pub after-policy : policySizeFaults policy ≡ []
+  after-policy = policy-sized policy (none-first _ _ e)
+
+  pub after-long : policyBytes ≤ length policy
+  after-long = policy-long policy after-policy
 
   pub after-lent : thenRoom bank needed room ≡ []
   after-lent = none-after (policyByteFaults policy) _ e
@@ -65,7 +67,7 @@ module _ (l : Lent) (needed room : ℕ) (e : callFaults l needed room ≡ []) wh
   lending : lentFaults (l .bank) needed room ≡ []
   lending = after-lent (l .policy) (bankFaults (l .bank)) needed room rest
 
-  pub call-policy : policyBytes ≤ length (l .policy)
+  pub call-policy : policySizeFaults (l .policy) ≡ []
   call-policy = after-policy (l .policy) (bankFaults (l .bank)) needed room rest
 
   pub call-request : requestBytes ≤ length (l .request)
@@ -73,7 +75,7 @@ module _ (l : Lent) (needed room : ℕ) (e : callFaults l needed room ≡ []) wh
   call-request = after-request l (bankFaults (l .bank)) needed room e
 
   -- what a call that takes them asks for
-  pub call-lent : (policyBytes ≤ length (l .policy)) × (requestBytes ≤ length (l .request)) × (recordsIn (length (l .bank)) ≤ maxCatalogModels)
+  pub call-lent : (policySizeFaults (l .policy) ≡ []) × (requestBytes ≤ length (l .request)) × (recordsIn (length (l .bank)) ≤ maxCatalogModels)
   call-lent = (call-policy, call-request, few-records (length (l .bank)) (none-first _ _ lending))
 
   pub call-room : needed ≤ room

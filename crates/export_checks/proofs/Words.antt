@@ -10,7 +10,7 @@ use Rattle.rules.specs.declared.refusal.Refusal.the-variants as refusal
 -- the cases that carry none, by their order in the enum
 abbrev pub plainTags : List ℕ
 plainTags =
-    0 ∷ 1 ∷ 3 ∷ 4 ∷ 5 ∷ 6 ∷ 7 ∷ 9 ∷ 13 ∷ 14 ∷ 16 ∷ 17 ∷ 18 ∷ 19 ∷ 20 ∷ 21 ∷ 22 ∷ 23 ∷ 24 ∷ []
+    0 ∷ 1 ∷ 3 ∷ 4 ∷ 5 ∷ 6 ∷ 7 ∷ 9 ∷ 13 ∷ 14 ∷ 16 ∷ 17 ∷ 18 ∷ 19 ∷ 20 ∷ 21 ∷ 22 ∷ 23 ∷ 24 ∷ 25 ∷ []
 
 pub plain-word : (place : ℕ) (r : Refusal) → OneOf plainTags (tagOf the-type r) → wordAt place (toldRefusal r) ≡ toldRefusal r .number
 unfolding equal
@@ -36,6 +36,7 @@ plain-word place refusal.CutShort h = refl
 plain-word place refusal.WrongTag h = refl
 plain-word place refusal.WrongLength h = refl
 plain-word place refusal.UnknownRounding h = refl
+plain-word place refusal.ZeroAllowance h = refl
 plain-word place refusal.EpochSpent h = refl
 plain-word place refusal.NoFreeSlot h = refl
 plain-word place refusal.SlotNotClear h = refl

@@ -62,6 +62,7 @@ module _ (s : List ℕ) (epoch : ℕ) (room : 16 ≤ length s) where
     «risk_penalty_multiplier_bps» = policyOf s .«risk_penalty_multiplier_bps»;
     «latency_penalty_microunits_per_ms» = policyOf s .«latency_penalty_microunits_per_ms»;
     rounding = policyOf s .rounding;
+    «latency_allowance_ms» = policyOf s .«latency_allowance_ms»;
   }
   unfolding policyOf policyWith
   epoch-policy h = λ i. record {
@@ -72,6 +73,7 @@ module _ (s : List ℕ) (epoch : ℕ) (room : 16 ≤ length s) where
     «risk_penalty_multiplier_bps» = elsewhere 4 2 i;
     «latency_penalty_microunits_per_ms» = elsewhere 6 8 i;
     rounding = roundingOf (elsewhere 14 1 i);
+    «latency_allowance_ms» = elsewhere 15 4 i;
   }
 
 -- AND ARE REFUSED AS THEY WERE

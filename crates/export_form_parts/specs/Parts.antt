@@ -12,11 +12,11 @@ use Rattle.export_checks.specs.Checks.{wordSize, handed}
 
 -- ---- `volankizo_read_stored`
 
--- A policy's bytes, how it rounds among them, and a length's
+-- A policy's bytes in their longest form, and a length's
 abbrev pub storedSize : ℕ
 storedSize = longestPolicyBytes + wordSize
 
--- 20 to 23 of the form, then 4: of the bank's buffer, which has so much room, or of the other one
+-- 20 to 23 and 25 of the form, then 4: of the bank's buffer, which has so much room, or of the other one
 abbrev pub readStoredFaults : List ℕ → ℕ → ℕ → Faults
 readStoredFaults form bank room = readFaults form bank ++ roomFaults storedSize room
 

@@ -14,6 +14,7 @@ use rules::limits::REQUEST_BYTES;
 use splice::put_bytes;
 use stored::read_request;
 use stored::read_stored;
+use stored_fields::ALLOWANCE_TAG;
 use stored_fields::BANK_TAG;
 use stored_fields::POLICY_TAG;
 use stored_fields::ROUNDING_TAG;
@@ -24,13 +25,13 @@ ghost use Rattle.export_checks.specs.Checks.{wordOf};
 ghost use Rattle.export_form_parts.specs.Parts.{readStoredCall, roomlessFaults, readRequestCall};
 
 // The bytes of a policy, and of the length of its bank.
-const STORED_BYTES: usize = 39;
+const STORED_BYTES: usize = 43;
 
 // The word where a stored form's policy has no room: of the form's own fault, else of 4.
 fn roomless(form: &[u8]) -> u64
     ensures { λ r. ⌜ r ≡ wordOf (firstFault (roomlessFaults (now (form .entry)))) ⌝ }
 {
-    let tags = [POLICY_TAG, BANK_TAG, ROUNDING_TAG];
+    let tags = [POLICY_TAG, BANK_TAG, ROUNDING_TAG, ALLOWANCE_TAG];
     match lay_out(form, &tags) {
         Outcome::Refused(refusal) => refusal_word(refusal, 0),
         Outcome::Answered => refusal_word(Refusal::NoRoom, 0),
@@ -38,7 +39,7 @@ fn roomless(form: &[u8]) -> u64
 }
 
 // A stored form taken apart: the models' bytes in `bank`, the policy and the length of the bank in `out`. Where either is too short neither
-// is written. Refused: 20 to 23 at each field in its turn, then 4.
+// is written. Refused: 20 to 23 and 25 at each field in its turn, then 4.
 pub fn stored_delivered(form: &[u8], bank: &mut [u8], out: &mut [u8]) -> u64
     ensures { λ r. ⌜ ((r, now (out .exit)), now (bank .exit)) ≡ readStoredCall (now (form .entry)) (now (bank .entry)) (now (out .entry)) ⌝ }
 {

@@ -15,12 +15,14 @@ use kernel_trace::trace::trace_of;
 use rules::Outcome;
 use rules::Traced;
 ghost use mathlib.Core.Path.{_≡_};
+ghost use mathlib.Core.List.{[]};
 ghost use Prim.Native.Nat.{_≤_};
 ghost use lib.ListN.{length};
-ghost use Rattle.rules.specs.Limits.{policyBytes, requestBytes};
+ghost use Rattle.rules.specs.Limits.{requestBytes};
 ghost use Rattle.rules.specs.Records.{inputOf, policyOf};
 ghost use Rattle.rules.specs.Refused.{answered};
 ghost use Rattle.rules.specs.Numbers.{toldTraced};
+ghost use Rattle.rules.specs.Stored.{policySizeFaults};
 ghost use Rattle.rules.specs.Decide.{tracedOf};
 ghost use Rattle.live_slots.specs.Among.{amongOf, Among};
 ghost use Rattle.export_checks.specs.Checks.{lent};
@@ -28,7 +30,7 @@ ghost use Rattle.export_live_calls.specs.LiveCalls.{livePrescribeCall, l
 
 // The decision over so many records with its counts. Policy and request come as their bytes, as in `kernel_trace::lent`.
 fn traced_live(policy: &[u8], request: &[u8], bank: &[u8], live: u16) -> Traced
-    requires { ⌜ (policyBytes ≤ length (now policy)) × (requestBytes ≤ length (now request)) × Among live (now bank) ⌝ }
+    requires { ⌜ (policySizeFaults (now policy) ≡ []) × (requestBytes ≤ length (now request)) × Among live (now bank) ⌝ }
     ensures { λ r. ⌜ toldTraced r ≡ answered (tracedOf (policyOf (now (policy .entry))) (inputOf (now (request .entry))) (amongOf live (now (bank .entry)))) ⌝ }
 {
     let decided = decide_among(policy_of(policy), bank, input_of(request), live);

@@ -1,6 +1,6 @@
 -- What opens a live call: what its tests tell, and what a call that passed them may count on. Assumes nothing.
 use Rattle.rules.proofs.Kit.{ℕ, _≤_, _≡_, refl, sym, ap, _∙_, List, [], _++_, append-nil, Option, length}
-use Rattle.rules.specs.{Limits.policyBytes, Limits.requestBytes, Refused.Fault, Refused.Faults, Refused.firstFault, Refused.toldOutcome}
+use Rattle.rules.specs.{Limits.requestBytes, Stored.policySizeFaults, Refused.Fault, Refused.Faults, Refused.firstFault, Refused.toldOutcome}
 use Rattle.rules.specs.Slots.{liveFaults, liveIn}
 use Rattle.rules.specs.{declared.refusal.Refusal.Refusal, declared.refusal.Outcome.Outcome, declared.refusal.Outcome.the-variants.Answered}
 use Rattle.rules.specs.{declared.refusal.Outcome.the-variants.Refused, declared.refusal.Refusal.the-variants.WrongLength, Refused.sizeFaults}
@@ -38,7 +38,7 @@ after-told fs gs bank e h = rw (e, append-nil fs) h
 -- Nothing refuses it, its buffers are long enough, and so many of its records are read as are live
 pub record Passed (l : Lent) (needed room many : ℕ) : Type 0 where
   pub clear : liveCallFaults l needed room ≡ []
-  pub policy : policyBytes ≤ length (l .policy)
+  pub policy : policySizeFaults (l .policy) ≡ []
   pub request : requestBytes ≤ length (l .request)
   pub space : needed ≤ room
   pub clean : liveFaults (l .bank) ≡ []

@@ -1,11 +1,13 @@
 // The decision with its counts, for a caller that holds policy and request in their bytes, and has tested their lengths and the bank's.
 ghost use mathlib.Core.Path.{_≡_};
+ghost use mathlib.Core.List.{[]};
 ghost use Prim.Native.Nat.{_≤_};
 ghost use lib.ListN.{length};
-ghost use Rattle.rules.specs.Limits.{maxCatalogModels, policyBytes, requestBytes};
+ghost use Rattle.rules.specs.Limits.{maxCatalogModels, requestBytes};
 ghost use Rattle.rules.specs.Records.{recordsIn, listedOf, inputOf, policyOf};
 ghost use Rattle.rules.specs.Refused.{answered};
 ghost use Rattle.rules.specs.Numbers.{toldTraced};
+ghost use Rattle.rules.specs.Stored.{policySizeFaults};
 ghost use Rattle.rules.specs.Decide.{tracedOf};
 use crate::trace::trace_of;
 use bank::unchecked::input_of;
@@ -24,7 +26,7 @@ use rules::limits::RECORD_BYTES;
 // What `prescribe_with_trace` decides over a bank of whole records. Policy and request come as their bytes: handed on as structs they would
 // be stored and loaded once more before the scan, which is a tenth of the time on a small bank (docs/SPEED.md).
 pub fn traced_lent(policy: &[u8], request: &[u8], bank: &[u8]) -> Traced
-    requires { ⌜ (policyBytes ≤ length (now policy)) × (requestBytes ≤ length (now request)) × (recordsIn (length (now bank)) ≤ maxCatalogModels) ⌝ }
+    requires { ⌜ (policySizeFaults (now policy) ≡ []) × (requestBytes ≤ length (now request)) × (recordsIn (length (now bank)) ≤ maxCatalogModels) ⌝ }
     ensures { λ r. ⌜ toldTraced r ≡ answered (tracedOf (policyOf (now (policy .entry))) (inputOf (now (request .entry))) (listedOf (now (bank .entry)))) ⌝ }
 {
     let limits = policy_of(policy);

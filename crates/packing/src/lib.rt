@@ -7,6 +7,7 @@ ghost use lib.ListN.{length};
 ghost use Rattle.rules.specs.Limits.{policyBytes};
 ghost use Rattle.rules.specs.Records.{modelBytes, inputBytes, policyNumberBytes, policyInBytes};
 use endian_signs::signed_bits;
+use endian_writing::put32;
 use rules::KernelInput;
 use rules::KernelModel;
 use rules::PolicySnapshot;
@@ -17,6 +18,7 @@ use rules::limits::POLICY_BYTES;
 use rules::limits::PolicyNumberBytes;
 use rules::limits::RECORD_BYTES;
 use rules::limits::REQUEST_BYTES;
+use rules::limits::ROUNDED_POLICY_BYTES;
 use rules::limits::RequestBytes;
 use unchecked::put_packed;
 
@@ -93,13 +95,15 @@ pub fn policy_number_bytes(p: PolicySnapshot) -> PolicyNumberBytes
     a
 }
 
-// The bytes that say a policy: those of its numbers, then how it rounds.
+// The bytes that say a policy: those of its numbers, then how it rounds, then its allowance.
 pub fn policy_bytes(p: PolicySnapshot) -> LongestPolicyBytes
     ensures { λ r. ⌜ r ≡ policyInBytes p ⌝ }
 {
     let rounding = p.rounding;
+    let allowance = p.latency_allowance_ms;
     let mut a = [0u8; LONGEST_POLICY_BYTES];
     put_numbers(&mut a[0..POLICY_BYTES], p);
     a[POLICY_BYTES] = rounding.number();
+    put32(&mut a, ROUNDED_POLICY_BYTES, allowance);
     a
 }

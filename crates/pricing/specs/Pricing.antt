@@ -13,7 +13,8 @@ use Rattle.pricing.specs.declared.Pricing.{Pricing}
 unfoldable pub prefixOf : ℕ → ℕ → ℕ
 prefixOf value share = below value (2 ^ 48) (value * share) maxU64
 
--- D15, D16, D17, D18, O1. What is the same for every model: V, the quality term's first factor, the risk term, and how a cost is rounded
+-- D15, D16, D17, D18, O1, F1. What is the same for every model: V, the quality term's first factor, the risk term, the penalty, how a cost is rounded,
+-- and the allowance
 unfoldable pub pricingOf : PolicySnapshot → KernelInput → Pricing
 pricingOf p q =
     record {
@@ -23,6 +24,7 @@ pricingOf p q =
       «risk_penalty» = wideOf (riskTermOf p q);
       «latency_pen_per_ms» = p .«latency_penalty_microunits_per_ms»;
       rounding = p .rounding;
+      «latency_allowance_ms» = p .«latency_allowance_ms»;
     }
 
 -- a pricing whose parts belong together: the prefix is that of its value, and the risk term leaves room for the others

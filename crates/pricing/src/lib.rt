@@ -21,4 +21,5 @@ pub struct Pricing {
     pub risk_penalty: Wide,
     pub latency_pen_per_ms: u64,
     pub rounding: Rounding,
+    pub latency_allowance_ms: u32,
 }

@@ -85,5 +85,6 @@ pub fn pricing_of(policy: PolicySnapshot, input: KernelInput) -> Pricing
         risk_penalty: share(value, input.risk_bps, policy.risk_penalty_multiplier_bps),
         latency_pen_per_ms: policy.latency_penalty_microunits_per_ms,
         rounding,
+        latency_allowance_ms: policy.latency_allowance_ms,
     }
 }

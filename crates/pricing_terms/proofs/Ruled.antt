@@ -1,7 +1,7 @@
 -- What the crate's definitions are by the rules of document 01. Assumes nothing.
 use Rattle.rules.proofs.Kit.{_≡_, refl, ap, _∙_, ℕ, _+_}
-use Rattle.rules.specs.{Utility.held, Utility.qualityTermOf, Utility.riskTermOf, Utility.latencyTermOf, Utility.exactUtilityOf}
-use Rattle.rules.specs.{Utility.utilityOf, Wide.val, declared.records.KernelModel.KernelModel, declared.records.KernelInput.KernelInput}
+use Rattle.rules.specs.{Utility.held, Utility.qualityTermOf, Utility.riskTermOf, Utility.chargedMs, Utility.latencyTermOf}
+use Rattle.rules.specs.{Utility.exactUtilityOf, Utility.utilityOf, Wide.val, declared.records.KernelModel.KernelModel, declared.records.KernelInput.KernelInput}
 use Rattle.rules.specs.{declared.records.PolicySnapshot.PolicySnapshot}
 use Rattle.pricing.specs.Pricing.{pricingOf}
 use Rattle.pricing_terms.specs.{declared.ScoredTerms.ScoredTerms, Score.unscored, Score.scoreOf, Terms.scoredTerms, Terms.termsWith}
@@ -24,7 +24,7 @@ module _ (p : PolicySnapshot) (m : KernelModel) (q : KernelInput) (cost : ℕ) w
 
   -- the terms under the pricing of a policy and a request are the rules'
   pub terms-rule : Ruled p m q cost (termsWith (pricingOf p q) m cost)
-  unfolding termsWith scoredTerms pricingOf qualityTermOf latencyTermOf
+  unfolding termsWith scoredTerms pricingOf qualityTermOf latencyTermOf chargedMs
   terms-rule =
       record {
         quality = wide-val _;

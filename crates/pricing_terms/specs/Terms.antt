@@ -1,5 +1,5 @@
 -- The terms of a model under a pricing.
-use Prim.Native.Nat.{ℕ, _+_, _*_}
+use Prim.Native.Nat.{ℕ, _+_, _-_, _*_}
 use Rattle.rules.specs.Utility.{shareOf}
 use Rattle.rules.specs.Wide.{val, wideOf}
 use Rattle.rules.specs.declared.records.KernelModel.{KernelModel}
@@ -20,10 +20,11 @@ scoredTerms quality risk cost latency =
       score = scoreOf quality (val risk + (cost + latency));
     }
 
--- D16, D18, D19. The terms of a model, its cost given
+-- D16, D18, D19, F1. The terms of a model, its cost given
 unfoldable pub termsWith : Pricing → KernelModel → ℕ → ScoredTerms
 termsWith pr m cost =
-    scoredTerms (shareOf (pr .value) (pr .«confidence_bps») (m .«quality_bps»)) (pr .«risk_penalty») cost (m .«p95_latency_ms» * pr .«latency_pen_per_ms»)
+    scoredTerms (shareOf (pr .value) (pr .«confidence_bps») (m .«quality_bps»)) (pr .«risk_penalty») cost
+    ((m .«p95_latency_ms» - pr .«latency_allowance_ms») * pr .«latency_pen_per_ms»)
 
 -- the same terms with the utility that the score stands for
 unfoldable pub utilityTermsOf : ScoredTerms → UtilityTerms

@@ -32,7 +32,17 @@ fn less(a: u64, b: u64) -> u64
     a - b
 }
 
-// The latency term by 64 bits.
+// The milliseconds above an allowance, none where there are none above it.
+fn charged(ms: u32, allowance: u32) -> u32
+    ensures { λ r. ⌜ r ≡ ms - allowance ⌝ }
+{
+    if ms < allowance {
+        return 0;
+    }
+    ms - allowance
+}
+
+// The latency term by 64 bits, of the milliseconds that are charged.
 fn late_small(ms: u32, penalty: u64) -> u64
     requires { ⌜ penalty < 2 ^ 32 ⌝ }
     ensures { λ r. ⌜ r ≡ ms * penalty ⌝ }
@@ -109,7 +119,7 @@ pub fn terms_wide(pr: Pricing, model: KernelModel, cost: u64) -> ScoredTerms
         risk.hi,
         risk.lo,
         cost,
-        model.p95_latency_ms,
+        charged(model.p95_latency_ms, pr.latency_allowance_ms),
         pr.latency_pen_per_ms,
     )
 }
@@ -122,12 +132,13 @@ pub fn terms(pr: Pricing, model: KernelModel, cost: u64) -> ScoredTerms
 {
     let prefix = pr.quality_prefix;
     let penalty = pr.latency_pen_per_ms;
+    let ms = charged(model.p95_latency_ms, pr.latency_allowance_ms);
     let risk = pr.risk_penalty;
     if prefix < PREFIX_LIMIT {
         if penalty < HALF {
             if limbs::held(risk) <= ZERO_SCORE {
                 let quality = share_small(prefix, model.quality_bps);
-                let latency = late_small(model.p95_latency_ms, penalty);
+                let latency = late_small(ms, penalty);
                 return terms_small(quality, risk, cost, latency);
             }
         }
@@ -139,7 +150,7 @@ pub fn terms(pr: Pricing, model: KernelModel, cost: u64) -> ScoredTerms
         risk.hi,
         risk.lo,
         cost,
-        model.p95_latency_ms,
+        ms,
         penalty,
     )
 }

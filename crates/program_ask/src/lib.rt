@@ -27,7 +27,7 @@ use rules::Refusal;
 use rules::Written;
 use text::put_line;
 
-// Whether the question is answered, and if not, why: 20 to 23, 19, validation, 3, and 5 last.
+// Whether the question is answered, and if not, why: 20 to 23 and 25, 19, validation, 3, and 5 last.
 pub fn ask_outcome(input: &[u8], id: u32) -> Outcome
     ensures { λ r. ⌜ toldOutcome r ≡ firstFault (askFaults id (now (input .entry))) ⌝ }
 {

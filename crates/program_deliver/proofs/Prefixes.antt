@@ -1,4 +1,4 @@
--- THE ANSWER DEPENDS ONLY ON THE FIRST 65,632 BYTES OF THE INPUT: one more than the longest input whose form passes, so that an input that is
+-- THE ANSWER DEPENDS ONLY ON THE FIRST 65,639 BYTES OF THE INPUT: one more than the longest input whose form passes, so that an input that is
 -- longer is refused by what stands in these. Assumes nothing.
 use Rattle.rules.proofs.Kit.{ℕ, zero, suc, _+_, _-_, _≤_, _<_, decLt, arith, zero-add, suc-add, _≡_, refl, sym, ap, _∙_, Bool, true, false, not, List, []}
 use Rattle.rules.proofs.Kit.{_∷_}
@@ -7,7 +7,8 @@ use Rattle.rules.proofs.Kit.{take-all}
 use Rattle.rules.specs.{Bytes.number, Refused.Fault, Refused.Faults, Refused.fault, Refused.refuseIf, Refused.unless, Stored.fits, Stored.tagOf}
 use Rattle.rules.specs.{Stored.bodyLength, Stored.bodyOf, Stored.afterOf, Stored.bodyFaults, Stored.fieldFaults, Stored.formFaults}
 use Rattle.rules.specs.{Printed.programTags, Printed.programFaults}
-use Rattle.stored_layout.proofs.Lengths.{fits-policy, fits-bank, fits-request, fits-rounding}
+use Rattle.stored_fields.proofs.Lengths.{fits-policy, fits-bank, fits-request, fits-rounding, fits-allowance}
+use Rattle.stored_layout.proofs.Passing.{optional}
 use Rattle.program_deliver.specs.Sizes.{readBytes}
 
 -- ---- tests that hand back the same first number
@@ -126,33 +127,41 @@ request-step n s h long =
     (λ e. omega (arith, fits-request _ e))
     (λ e. end-step (n - (3 + bodyLength s)) (afterOf s) (omega (arith, fits-request _ e)) (omega (arith, after-length s, long)))
 
--- tag 4 stands there or is left out, of the part as of the whole
-rounding-step : (n : ℕ) (s : List ℕ) → 78 ≤ n → n ≤ length s → Halted (formFaults (4 ∷ 3 ∷ []) (take n s)) (formFaults (4 ∷ 3 ∷ []) s)
-unfolding formFaults
-rounding-step n s h long = go (eqb (tagOf s) 4) refl
-  where
-    front : tagOf (take n s) ≡ tagOf s
-    front = tag-same 4 n [] s long (omega arith)
+-- a field that may be left out stands there or doesn't, of the part as of the whole
+module _ (tag size least : ℕ) (tags : List ℕ) (may : optional tag ≡ true) (sized : (n : ℕ) → fits tag n ≡ true → n ≡ size)
+    (rest : (n : ℕ) (s : List ℕ) → least ≤ n → n ≤ length s → Halted (formFaults tags (take n s)) (formFaults tags s)) where
+  optional-step : (n : ℕ) (s : List ℕ) → 3 + size + least ≤ n → n ≤ length s → Halted (formFaults (tag ∷ tags) (take n s)) (formFaults (tag ∷ tags) s)
+  unfolding formFaults
+  optional-step n s h long = go (eqb (tagOf s) tag) refl
+    where
+      front : tagOf (take n s) ≡ tagOf s
+      front = tag-same tag n [] s long (omega arith)
 
-    go : (t : Bool) → eqb (tagOf s) 4 ≡ t → Halted (formFaults (4 ∷ 3 ∷ []) (take n s)) (formFaults (4 ∷ 3 ∷ []) s)
-    go false e = rw (front, e) (request-step n s (omega arith) long)
-    go true e =
-        rw (front, e)
-        (field-step 4 n (3 ∷ []) s long (omega arith) true (fits 4 (bodyLength s)) e refl
-        (λ f. omega (arith, fits-rounding _ f))
-        (λ f. request-step (n - (3 + bodyLength s)) (afterOf s) (omega (arith, fits-rounding _ f)) (omega (arith, after-length s, long))))
+      go : (t : Bool) → eqb (tagOf s) tag ≡ t → Halted (formFaults (tag ∷ tags) (take n s)) (formFaults (tag ∷ tags) s)
+      go false e = rw (may, front, e) (rest n s (omega arith) long)
+      go true e =
+          rw (may, front, e)
+          (field-step tag n tags s long (omega arith) true (fits tag (bodyLength s)) e refl
+          (λ f. omega (arith, sized _ f))
+          (λ f. rest (n - (3 + bodyLength s)) (afterOf s) (omega (arith, sized _ f)) (omega (arith, after-length s, long))))
 
-bank-step : (n : ℕ) (s : List ℕ) → 65599 ≤ n → n ≤ length s → Halted (formFaults (2 ∷ 4 ∷ 3 ∷ []) (take n s)) (formFaults (2 ∷ 4 ∷ 3 ∷ []) s)
+allowance-step : (n : ℕ) (s : List ℕ) → 81 ≤ n → n ≤ length s → Halted (formFaults (5 ∷ 3 ∷ []) (take n s)) (formFaults (5 ∷ 3 ∷ []) s)
+allowance-step = optional-step 5 4 74 (3 ∷ []) refl fits-allowance request-step
+
+rounding-step : (n : ℕ) (s : List ℕ) → 85 ≤ n → n ≤ length s → Halted (formFaults (4 ∷ 5 ∷ 3 ∷ []) (take n s)) (formFaults (4 ∷ 5 ∷ 3 ∷ []) s)
+rounding-step = optional-step 4 1 81 (5 ∷ 3 ∷ []) refl fits-rounding allowance-step
+
+bank-step : (n : ℕ) (s : List ℕ) → 65606 ≤ n → n ≤ length s → Halted (formFaults (2 ∷ 4 ∷ 5 ∷ 3 ∷ []) (take n s)) (formFaults (2 ∷ 4 ∷ 5 ∷ 3 ∷ []) s)
 unfolding formFaults
 bank-step n s h long =
-    field-step 2 n (4 ∷ 3 ∷ []) s long (omega arith) (eqb (tagOf s) 2) (fits 2 (bodyLength s)) refl refl
+    field-step 2 n (4 ∷ 5 ∷ 3 ∷ []) s long (omega arith) (eqb (tagOf s) 2) (fits 2 (bodyLength s)) refl refl
     (λ e. let b = fits-bank _ e in omega (arith, b .0, b .1))
     (λ e. let b = fits-bank _ e in rounding-step (n - (3 + bodyLength s)) (afterOf s) (omega (arith, b .0, b .1)) (omega (arith, after-length s, long)))
 
 policy-step : (s : List ℕ) → readBytes ≤ length s → Halted (formFaults programTags (take readBytes s)) (formFaults programTags s)
 unfolding formFaults
 policy-step s long =
-    field-step 1 readBytes (2 ∷ 4 ∷ 3 ∷ []) s long (omega arith) (eqb (tagOf s) 1) (fits 1 (bodyLength s)) refl refl
+    field-step 1 readBytes (2 ∷ 4 ∷ 5 ∷ 3 ∷ []) s long (omega arith) (eqb (tagOf s) 1) (fits 1 (bodyLength s)) refl refl
     (λ e. omega (arith, fits-policy _ e))
     (λ e. bank-step (readBytes - (3 + bodyLength s)) (afterOf s) (omega (arith, fits-policy _ e)) (omega (arith, after-length s, long)))
 

@@ -1,7 +1,7 @@
 // Sizes that always suffice: of what is read of an input, and of each text.
 
 // One byte more than the longest input whose form passes; no answer depends on what comes after.
-pub const INPUT_BYTES: usize = 65_632;
+pub const INPUT_BYTES: usize = 65_639;
 
 // A decision line, a line of counts and four levers.
 pub const UNIT_BYTES: usize = 840;

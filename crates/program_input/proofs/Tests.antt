@@ -2,34 +2,23 @@
 use Rattle.rules.proofs.Kit.{lt-ltb, le-ltb, eq-eqb, ℕ, _/_, _%_, _≤_, _<_, _≡_, refl, ap, _∙_, List, [], _∷_, Option, length, arith}
 use Rattle.rules.specs.{Limits.recordBytes, Limits.maxProgramModels, Limits.maxCatalogModels, Records.recordsIn, Records.listedOf, Refused.Fault}
 use Rattle.rules.specs.{Refused.bankFaults, Refused.lengthFaults, Refused.orElse, Refused.firstFault, Refused.toldOutcome, Decide.requestFaults}
-use Rattle.rules.specs.{Validate.catalogFaults, Stored.bodyLength, Stored.afterOf, Stored.dueFaults, Stored.afterDue}
+use Rattle.rules.specs.{Validate.catalogFaults, Stored.bodyLength, Stored.afterOf, Stored.afterDue, Stored.afterRounding}
 use Rattle.rules.specs.{Stored.formFaults, Stored.storedPolicy, Stored.storedBank, Printed.programTags}
 use Rattle.rules.specs.{Printed.programModels, Printed.programRequest, Printed.programFaults, declared.records.KernelInput.KernelInput}
 use Rattle.rules.specs.{declared.records.PolicySnapshot.PolicySnapshot, declared.refusal.Refusal.Refusal, declared.refusal.Outcome.Outcome}
 use Rattle.rules.specs.{declared.refusal.Outcome.the-variants.Answered, declared.refusal.Outcome.the-variants.Refused}
 use Rattle.rules.proofs.Faults.{none-first, append-refused, joined-told}
-use Rattle.stored_layout.proofs.{Passing.Passed, Passing.body-length, Forms.form-passed, Forms.form-due, Lengths.fits-bank}
+use Rattle.stored_fields.proofs.Lengths.{fits-bank}
+use Rattle.stored_layout.proofs.{Passing.Passed, Passing.body-length, Forms.form-passed, Openings.Opened, Openings.opened}
 use Rattle.program_input.specs.Formed.{Formed, formedFaults}
 use Rattle.rules.specs.declared.refusal.Refusal.the-variants as refusal
 
--- What stands after the catalogue of an input
-abbrev pub afterBank : List ℕ → List ℕ
-afterBank input = afterOf (afterOf input)
+-- AN INPUT THAT PASSES HAS ITS FIELDS, tags 4 and 5 among them or not
+pub fields : (input : List ℕ) → Formed input → Opened (3 ∷ []) input
+fields input e = opened (3 ∷ []) input e
 
--- AN INPUT THAT PASSES HAS ITS FIELDS, tag 4 among them or not
-pub record Fields (input : List ℕ) : Type 0 where
-  pub policy : Passed 1 input
-  pub bank : Passed 2 (afterOf input)
-  pub rounding : dueFaults 4 (afterBank input) ≡ []
-  pub request : Passed 3 (afterDue 4 (afterBank input))
-
-pub fields : (input : List ℕ) → Formed input → Fields input
-fields input e =
-    let first = form-passed 1 (2 ∷ 4 ∷ 3 ∷ []) input refl e in
-    let second = form-passed 2 (4 ∷ 3 ∷ []) (afterOf input) refl (first .1) in
-    let third = form-due 4 (3 ∷ []) (afterBank input) (second .1) in
-    let fourth = form-passed 3 [] (afterDue 4 (afterBank input)) refl (third .1) in
-    record { policy = first .0; bank = second .0; rounding = third .0; request = fourth .0 }
+pub request-field : (input : List ℕ) → Formed input → Passed 3 (afterDue 5 (afterRounding input))
+request-field input e = form-passed 3 [] (afterDue 5 (afterRounding input)) refl (fields input e .rest) .0
 
 -- and its bank has whole records, no more than a catalogue's
 pub bank-whole : (input : List ℕ) → Formed input → bankFaults (storedBank input) ≡ []

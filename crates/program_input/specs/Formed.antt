@@ -10,7 +10,7 @@ use Rattle.rules.specs.Refused.{Faults, fault, refuseIf}
 use Rattle.rules.specs.Stored.{formFaults, storedBank}
 use Rattle.rules.specs.Printed.{programTags}
 
--- N20 to N22, O4. The fields stand in the input, tag 4 or not, and nothing after them
+-- N20 to N22, O4, F4. The fields stand in the input, tags 4 and 5 or not, and nothing after them
 abbrev pub Formed : List ℕ → Type 0
 Formed input = formFaults programTags input ≡ []
 

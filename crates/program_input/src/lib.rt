@@ -6,7 +6,6 @@ ghost use Rattle.rules.specs.Stored.{storedPolicy, storedBank};
 ghost use Rattle.rules.specs.Printed.{programRequest, programFaults};
 ghost use Rattle.program_input.specs.Formed.{Formed, formedFaults};
 use bank::unchecked::input_of;
-use bank::unchecked::policy_with;
 use call_checks::refuse::first_refused;
 use call_checks::refuse::input_outcome;
 use catalogue_validation::catalog_outcome;
@@ -16,23 +15,22 @@ use rules::PolicySnapshot;
 use rules::Refusal;
 use rules::limits::MAX_PROGRAM_MODELS;
 use rules::limits::RECORD_BYTES;
+use stored_fields::ALLOWANCE_TAG;
 use stored_fields::BANK_TAG;
 use stored_fields::POLICY_TAG;
 use stored_fields::REQUEST_TAG;
 use stored_fields::ROUNDING_TAG;
-use stored_layout::after_due;
 use stored_layout::after_front;
+use stored_layout::after_opening;
 use stored_layout::front_body;
 use stored_layout::lay_out;
-use stored_layout::rounding_in;
 
-// Tags 1 and 4: the policy.
+// Tags 1, 4 and 5: the policy.
 pub fn policy_in(input: &[u8]) -> PolicySnapshot
     requires { ⌜ Formed (now input) ⌝ }
     ensures { λ r. ⌜ r ≡ storedPolicy (now (input .entry)) ⌝ }
 {
-    let rounding = rounding_in(input);
-    policy_with(rounding, front_body(input))
+    stored_layout::policy_in(input)
 }
 
 // Tag 2: the bank.
@@ -48,15 +46,20 @@ pub fn request_in(input: &[u8]) -> KernelInput
     requires { ⌜ Formed (now input) ⌝ }
     ensures { λ r. ⌜ r ≡ programRequest (now (input .entry)) ⌝ }
 {
-    let rest = after_due(after_front(after_front(input)), ROUNDING_TAG);
-    input_of(front_body(rest))
+    input_of(front_body(after_opening(input)))
 }
 
-// 20 to 23 over all fields, then 19.
+// 20 to 23 and 25 over all fields, then 19.
 fn formed_outcome(input: &[u8]) -> Outcome
     ensures { λ r. ⌜ toldOutcome r ≡ firstFault (formedFaults (now (input .entry))) ⌝ }
 {
-    let tags = [POLICY_TAG, BANK_TAG, ROUNDING_TAG, REQUEST_TAG];
+    let tags = [
+        POLICY_TAG,
+        BANK_TAG,
+        ROUNDING_TAG,
+        ALLOWANCE_TAG,
+        REQUEST_TAG,
+    ];
     let outcome = lay_out(input, &tags);
     if let Outcome::Refused(refusal) = outcome {
         return Outcome::Refused(refusal);
@@ -68,7 +71,7 @@ fn formed_outcome(input: &[u8]) -> Outcome
     Outcome::Answered
 }
 
-// Whether the programs answer an input, and if not, why: 20 to 23, 19, validation, 3.
+// Whether the programs answer an input, and if not, why: 20 to 23 and 25, 19, validation, 3.
 pub fn program_outcome(input: &[u8]) -> Outcome
     ensures { λ r. ⌜ toldOutcome r ≡ firstFault (programFaults (now (input .entry))) ⌝ }
 {

@@ -59,11 +59,13 @@ unfolding rangeWords
 ceiling-range {field} h value = sym (equal-no field 7 _ _ h)
 
 -- NO SENTENCE, where the input could be read
-pub no-form : {number : ℕ} → (number ≡ 19 → ⊥) → (number ≡ 20 → ⊥) → (number ≡ 21 → ⊥) → (number ≡ 22 → ⊥) → (number ≡ 23 → ⊥) → [] ≡ formWords number
+pub no-form : {number : ℕ} → (number ≡ 19 → ⊥) → (number ≡ 20 → ⊥) → (number ≡ 21 → ⊥) → (number ≡ 22 → ⊥) → (number ≡ 23 → ⊥) → (number ≡ 25 → ⊥)
+    → [] ≡ formWords number
 unfolding formWords
-no-form {number} a b c d e =
+no-form {number} a b c d e f =
     sym
-    (equal-no number 19 _ _ a ∙ equal-no number 20 _ _ b ∙ equal-no number 21 _ _ c ∙ equal-no number 22 _ _ d ∙ equal-no number 23 _ _ e)
+    (equal-no number 19 _ _ a ∙ equal-no number 20 _ _ b ∙ equal-no number 21 _ _ c ∙ equal-no number 22 _ _ d ∙ equal-no number 23 _ _ e
+    ∙ equal-no number 25 _ _ f)
 
 -- A REFUSAL'S SENTENCE is that of the case it is
 pub told-as : {r s : Refusal} → r ≡ s → (asked : ℕ) → faultWords asked (toldRefusal s) ≡ faultWords asked (toldRefusal r)
@@ -71,7 +73,7 @@ told-as e asked = ap (λ (x : Refusal). faultWords asked (toldRefusal x)) (sym e
 
 -- the cases that neither carry values nor speak of the catalogue, by their order in the enum
 abbrev pub otherTags : List ℕ
-otherTags = 0 ∷ 1 ∷ 3 ∷ 5 ∷ 6 ∷ 7 ∷ 14 ∷ 15 ∷ 16 ∷ 17 ∷ 18 ∷ 19 ∷ 20 ∷ 21 ∷ 22 ∷ 23 ∷ 24 ∷ []
+otherTags = 0 ∷ 1 ∷ 3 ∷ 5 ∷ 6 ∷ 7 ∷ 14 ∷ 15 ∷ 16 ∷ 17 ∷ 18 ∷ 19 ∷ 20 ∷ 21 ∷ 22 ∷ 23 ∷ 24 ∷ 25 ∷ []
 
 -- and of these by its number alone
 pub others : (asked : ℕ) (r : Refusal) → OneOf otherTags (tagOf the-type r) → formWords (toldRefusal r .number) ≡ faultWords asked (toldRefusal r)
@@ -98,6 +100,7 @@ others asked refusal.CutShort h = refl
 others asked refusal.WrongTag h = refl
 others asked refusal.WrongLength h = refl
 others asked refusal.UnknownRounding h = refl
+others asked refusal.ZeroAllowance h = refl
 others asked refusal.EpochSpent h = refl
 others asked refusal.NoFreeSlot h = refl
 others asked refusal.SlotNotClear h = refl

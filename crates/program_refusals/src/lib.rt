@@ -108,7 +108,7 @@ fn put_provider(out: &mut [u8], at: usize, id: u32, provider: u16) -> usize
     put_byte(out, end, b'\n')
 }
 
-// The sentences of 19 to 23; no other number that comes here has one.
+// The sentences of 19 to 23 and 25; no other number that comes here has one.
 fn put_form_fault(out: &mut [u8], at: usize, number: u8) -> usize
     requires { ⌜ at + 70 ≤ length (now out) ⌝ }
     ensures { λ r. ⌜ some (r, now (out .exit)) ≡ placed (now (out .entry)) at (formWords number) ⌝ }
@@ -116,12 +116,14 @@ fn put_form_fault(out: &mut [u8], at: usize, number: u8) -> usize
 {
     let misplaced = b"A field of the input is missing, out of its order, or one too many.";
     let misfit = b"A field of the input has a length that its tag does not have.";
+    let unallowed = b"The input's latency allowance, under tag 5, is 0.";
     match number {
         19 => put_sentence(out, at, b"More than 900 models are listed."),
         20 => put_sentence(out, at, b"The input ends within a field."),
         21 => put_sentence(out, at, misplaced),
         22 => put_sentence(out, at, misfit),
         23 => put_sentence(out, at, b"The input's rounding, under tag 4, is not 1."),
+        25 => put_sentence(out, at, unallowed),
         _ => at,
     }
 }

@@ -1,8 +1,8 @@
 -- Literal bytes beyond document 01's example, with a different value wherever two could be exchanged. Assumes nothing.
-use Rattle.rules.proofs.Kit.{ℕ, List, [], _∷_, negsuc}
+use Rattle.rules.proofs.Kit.{ℕ, List, [], _∷_, _++_, negsuc}
 use Rattle.rules.specs.{declared.records.KernelModel.KernelModel, declared.records.KernelInput.KernelInput}
 use Rattle.rules.specs.{declared.records.PolicySnapshot.PolicySnapshot}
-use Rattle.rules.specs.declared.records.Rounding.the-variants.{Apart}
+use Rattle.rules.specs.declared.records.Rounding.{Rounding}
 
 -- a different byte in every place of a record, and what they say
 abbrev pub modelBytes47 : List ℕ
@@ -53,14 +53,17 @@ requestSaid =
       «required_region_mask» = 12297545695520728227;
     }
 
--- a different byte in every place of a policy
+-- a different byte in every place of a policy, of 30 bytes and of 35, and what they say: with how it rounds and its allowance
 abbrev pub policyBytes30 : List ℕ
 policyBytes30 =
     201 ∷ 202 ∷ 203 ∷ 204 ∷ 205 ∷ 206 ∷ 207 ∷ 208 ∷ 209 ∷ 210 ∷ 211 ∷ 212 ∷ 213 ∷ 214 ∷ 215 ∷ 216
     ∷ 217 ∷ 218 ∷ 219 ∷ 220 ∷ 221 ∷ 222 ∷ 223 ∷ 224 ∷ 225 ∷ 226 ∷ 227 ∷ 228 ∷ 229 ∷ 230 ∷ []
 
-abbrev pub policySaid : PolicySnapshot
-policySaid =
+abbrev pub policyBytes35 : List ℕ
+policyBytes35 = policyBytes30 ++ (1 ∷ 231 ∷ 232 ∷ 233 ∷ 234 ∷ [])
+
+abbrev pub policySaid : Rounding → ℕ → PolicySnapshot
+policySaid rounding allowance =
     record {
       «policy_epoch» = 15046472263367641801;
       «catalog_epoch» = 15625193646072255185;
@@ -68,7 +71,8 @@ policySaid =
       «minimum_confidence_bps» = 56539;
       «risk_penalty_multiplier_bps» = 57053;
       «latency_penalty_microunits_per_ms» = 16637956065805328607;
-      rounding = Apart;
+      rounding = rounding;
+      «latency_allowance_ms» = allowance;
     }
 
 -- four records, one for each verdict, whose terms pass 2 ^ 64

@@ -155,16 +155,16 @@ policyRows =
     ∷ says "and of 2: 23" (readPolicyOf (policy ++ (2 ∷ []))) (refused (fault 23)) refl
     ∷ says "and of 255: 23" (readPolicyOf (policy ++ (255 ∷ []))) (refused (fault 23)) refl
     ∷ says "how they round" (map (λ s. policyOf s .rounding) (policy ∷ (policy ++ (0 ∷ [])) ∷ once ∷ [])) (Apart ∷ Apart ∷ Once ∷ []) refl
-    ∷ says "handed back: 31 bytes" (policyInBytes (policyOf once)) once refl
+    ∷ says "handed back: 35 bytes, the last four 0" (policyInBytes (policyOf once)) (once ++ replicate 4 0) refl
     ∷ []
 
 -- ---- stored forms
 
 -- writing the bank under a policy
-abbrev written : List ℕ → List ℕ → Answer ℕ × List ℕ
+abbrev pub written : List ℕ → List ℕ → Answer ℕ × List ℕ
 written p buffer = (writeStoredOf (policyOf p) bank (length buffer), writeStoredBuffer (policyOf p) bank buffer)
 
-abbrev tagFour : List ℕ
+abbrev pub tagFour : List ℕ
 tagFour = 4 ∷ 1 ∷ 0 ∷ 1 ∷ []
 
 formRows : List Row
@@ -196,8 +196,9 @@ formRows =
 
 -- ---- the programs
 
-abbrev inputWith : List ℕ → List ℕ
-inputWith rounding = form ++ rounding ++ requestField
+-- their input, with what stands between the catalogue and the request
+abbrev pub inputWith : List ℕ → List ℕ
+inputWith fields = form ++ fields ++ requestField
 
 programRows : List Row
 unfolding rules
@@ -227,8 +228,8 @@ programRows =
     ∷ says "in words: 23" (askWords 1 (inputWith (4 ∷ 1 ∷ 0 ∷ 0 ∷ [])))
     (is "refused 23" ++ is "The input's rounding, under tag 4, is not 1.")
     refl
-    ∷ says "two bytes of another tag: 20" (unitText (form ++ (5 ∷ 0 ∷ []))) (is "refused 20") refl
-    ∷ says "three: 21" (unitText (form ++ (5 ∷ 0 ∷ 0 ∷ []))) (is "refused 21") refl
+    ∷ says "two bytes of another tag: 20" (unitText (form ++ (6 ∷ 0 ∷ []))) (is "refused 20") refl
+    ∷ says "three: 21" (unitText (form ++ (6 ∷ 0 ∷ 0 ∷ []))) (is "refused 21") refl
     ∷ says "a byte 4 after a whole tag 4: 20" (unitText (form ++ tagFour ++ (4 ∷ []))) (is "refused 20") refl
     ∷ says "tag 4 before the catalogue: 21" (unitText (policyField ++ tagFour ++ bankField ++ requestField)) (is "refused 21") refl
     ∷ says "a byte 4 at the end: 20, as any byte where the request is due" (unitText (form ++ (4 ∷ []))) (is "refused 20") refl

@@ -163,5 +163,6 @@ faultRows =
     ∷ says "21" (faultWords 1 (fault 21)) (is "A field of the input is missing, out of its order, or one too many.") refl
     ∷ says "22" (faultWords 1 (fault 22)) (is "A field of the input has a length that its tag does not have.") refl
     ∷ says "23" (faultWords 1 (fault 23)) (is "The input's rounding, under tag 4, is not 1.") refl
+    ∷ says "25" (faultWords 1 (fault 25)) (is "The input's latency allowance, under tag 5, is 0.") refl
     ∷ says "a number that no input is refused with has no sentence" (faultWords 1 (fault 1)) [] refl
     ∷ []

@@ -8,11 +8,13 @@ use Rattle.rules.specs.{Refused.answered}
 use Rattle.rules.specs.{Numbers.twoNumbers, Verdict.verdictOf}
 use Rattle.rules.specs.{Count.dominantOf, Listing.findOf, Listing.readingOf, Listing.recordOf, Listing.recordStart, Decide.requestCheck}
 use Rattle.rules.specs.{Decide.prescribeOf, Decide.prescribeCheckedOf, Decide.prescribeTracedCheckedOf, Decide.utilityForModelOf}
+use Rattle.rules.specs.declared.records.Rounding.the-variants.{Apart, Once}
 use Rattle.rules.proofs.{Opened.rules, Rows.Row, Rows.says, Rows.decided, Rows.explained, Example.bank, Example.modelOne, Example.modelTwo}
 use Rattle.rules.proofs.{Example.policy, Example.request, Example.with, Example.uneven, Example.atHardLimit, Example.unsure, Example.decision}
 use Rattle.rules.proofs.{Example.rejected, Example.counts, Example.noCounts, Example.counted}
 use Rattle.rows.proofs.{Literals.modelBytes47, Literals.modelSaid}
-use Rattle.rows.proofs.{Literals.requestBytes70, Literals.requestSaid, Literals.policyBytes30, Literals.policySaid, Literals.fourModels}
+use Rattle.rows.proofs.{Literals.requestBytes70, Literals.requestSaid, Literals.policyBytes30, Literals.policyBytes35, Literals.policySaid}
+use Rattle.rows.proofs.{Literals.fourModels}
 use Rattle.rows.proofs.{Literals.fourRequest, Literals.fourPolicy, Literals.fourExplained, Literals.passes, Literals.gateRequest, Literals.gatePolicy}
 
 -- ---- bytes: each way, an explanation of each verdict, and one refused
@@ -24,8 +26,10 @@ byteRows =
     ∷ says "a model's bytes, written" (modelBytes modelSaid) modelBytes47 refl
     ∷ says "a request's bytes, read" (inputOf requestBytes70) requestSaid refl
     ∷ says "a request's bytes, written" (inputBytes requestSaid) requestBytes70 refl
-    ∷ says "a policy's bytes, read" (policyOf policyBytes30) policySaid refl
-    ∷ says "a policy's bytes, written: 0 after them for apart" (policyInBytes policySaid) (policyBytes30 ++ (0 ∷ [])) refl
+    ∷ says "a policy's 30 bytes, read" (policyOf policyBytes30) (policySaid Apart 0) refl
+    ∷ says "and written: 0 after them for apart, and four for no allowance" (policyInBytes (policySaid Apart 0)) (policyBytes30 ++ replicate 5 0) refl
+    ∷ says "a policy's 35 bytes, read" (policyOf policyBytes35) (policySaid Once 3941198055) refl
+    ∷ says "and written" (policyInBytes (policySaid Once 3941198055)) policyBytes35 refl
     ∷ says "an explanation of each verdict" (explained fourModels fourPolicy fourRequest (replicate 288 255))
     (answered (decision 72623859790382856 2 2 1145258561 3 5261728424987371 (pos 1234605616686861287) 0 (pos 0) 4 1 11 12), fourExplained)
     refl

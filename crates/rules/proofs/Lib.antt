@@ -24,4 +24,5 @@ pub mod Rows
 pub mod Table
 pub mod KeyRows
 pub mod OnceRows
+pub mod AllowanceRows
 pub mod BoundaryRows

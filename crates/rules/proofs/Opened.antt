@@ -3,7 +3,8 @@ use Rattle.rules.specs.{Choice.below, Choice.atLeast, Choice.equal, Choi
 use Rattle.rules.specs.{Bytes.filled}
 use Rattle.rules.specs.{Records.modelOf, Records.inputOf, Records.policyWith, Records.policyOf, Records.listedOf, Stored.fieldBytes, Stored.fits}
 use Rattle.rules.specs.{Stored.bodyOf, Stored.bodyFaults, Stored.policySizeFaults}
-use Rattle.rules.specs.{Stored.roundingFaults, Stored.readPolicyOf, Stored.roundingField, Stored.afterOf, Stored.fieldFaults, Stored.formFaults}
+use Rattle.rules.specs.{Stored.roundingFaults, Stored.readPolicyOf, Stored.roundingField, Stored.allowanceField, Stored.afterOf}
+use Rattle.rules.specs.{Stored.fieldFaults, Stored.formFaults}
 use Rattle.rules.specs.{Stored.storedForm, Stored.requestForm, Stored.writeFaults}
 use Rattle.rules.specs.{Stored.writeStoredOf, Stored.writeStoredBuffer, Stored.readFaults, Stored.readStoredOf, Stored.readStoredBuffer}
 use Rattle.rules.specs.{Stored.writeRequestOf, Stored.writeRequestBuffer, Stored.readRequestOf, Refused.firstFault, Refused.lengthFaults}
@@ -14,7 +15,8 @@ use Rattle.rules.specs.{Validate.providerFaults, Validate.modelFaults, V
 use Rattle.rules.specs.{Validate.catalogFaults, Validate.validateOf, Trust.reservedFaults, Trust.flagFaults, Trust.earlyFaults, Trust.recordsFrom}
 use Rattle.rules.specs.{Trust.joined, Trust.idOf, Trust.orderedOf, Trust.trustOf, Trust.trustBank, Gates.gateOf, Gates.detailOf, Price.billed}
 use Rattle.rules.specs.{Price.billedBoth}
-use Rattle.rules.specs.{Price.costOf, Price.scaledPrice, Utility.shareOf, Utility.qualityTermOf, Utility.riskTermOf, Utility.latencyTermOf}
+use Rattle.rules.specs.{Price.costOf, Price.scaledPrice, Utility.shareOf, Utility.qualityTermOf, Utility.riskTermOf, Utility.chargedMs}
+use Rattle.rules.specs.{Utility.latencyTermOf}
 use Rattle.rules.specs.{Utility.exactUtilityOf, Utility.utilityOf, Verdict.byUtility, Verdict.verdictCosting, Rank.better, Rank.ranking}
 use Rattle.rules.specs.{Count.gateReason}
 use Rattle.rules.specs.{Count.countedFor, Count.raisedBy, Count.countsFrom, Count.countsOf, Count.heavier, Count.dominantOf, Decide.stoppedBy}
@@ -52,7 +54,8 @@ unfolding below atLeast equal lower higher number bytesOf packed filled modelOf 
 bytes = tt
 
 forms : Unit {0}
-unfolding fieldBytes fits bodyOf afterOf bodyFaults fieldFaults formFaults policySizeFaults roundingFaults readPolicyOf roundingField storedForm requestForm
+unfolding fieldBytes fits bodyOf afterOf bodyFaults fieldFaults formFaults policySizeFaults roundingFaults readPolicyOf roundingField allowanceField storedForm
+    requestForm
 forms = tt
 
 writing : Unit {0}
@@ -76,7 +79,8 @@ trusting = tt
 -- ---- deciding: one record, the list of them, the calls
 
 judging : Unit {0}
-unfolding gateOf detailOf billed billedBoth costOf scaledPrice shareOf qualityTermOf riskTermOf latencyTermOf exactUtilityOf utilityOf byUtility verdictCosting
+unfolding gateOf detailOf billed billedBoth costOf scaledPrice shareOf qualityTermOf riskTermOf chargedMs latencyTermOf exactUtilityOf utilityOf
+    byUtility verdictCosting
 judging = tt
 
 ordering : Unit {0}

@@ -54,7 +54,7 @@ refusalFrom f =
     ∷ refusal.WrongLength
     ∷ refusal.UnknownRounding
     ∷ refusal.UnevenBank
-    ∷ refusal.UnevenBank
+    ∷ refusal.ZeroAllowance
     ∷ refusal.UnevenBank
     ∷ refusal.EpochSpent
     ∷ refusal.NoFreeSlot
@@ -91,6 +91,7 @@ refusal-back refusal.CutShort = refl
 refusal-back refusal.WrongTag = refl
 refusal-back refusal.WrongLength = refl
 refusal-back refusal.UnknownRounding = refl
+refusal-back refusal.ZeroAllowance = refl
 refusal-back refusal.EpochSpent = refl
 refusal-back refusal.NoFreeSlot = refl
 refusal-back refusal.SlotNotClear = refl

@@ -18,7 +18,7 @@ isOff m q = eqb (m .enabled) 0
 abbrev pub isPoor : KernelModel → KernelInput → Bool
 isPoor m q = ltb (m .«quality_bps») (q .«minimum_quality_bps»)
 
--- D6. Gate 3: the request's latency is above 0, and the model's is above it
+-- D6, F1. Gate 3: the request's latency is above 0, and the model's, with what is free of it, is above it
 abbrev pub isSlow : KernelModel → KernelInput → Bool
 isSlow m q = ltb 0 (q .«max_p95_latency_ms») && ltb (q .«max_p95_latency_ms») (m .«p95_latency_ms»)
 
@@ -54,7 +54,7 @@ gateOf m q = firstOf 1 (isOff m q ∷ isPoor m q ∷ isSlow m q ∷ isUnable m q
 abbrev pub detail : ℕ → ℕ → GateDetail
 detail measured limit = record { measured = measured; limit = limit }
 
--- D12. What a failed gate measured, and its limit. Gate 1 compares nothing and tells 0 and 1; gate 8 is turned round, since the request
+-- D12, F1. What a failed gate measured, and its limit. Gate 1 compares nothing and tells 0 and 1; gate 8 is turned round, since the request
 -- carries the risk and the model the ceiling
 unfoldable pub detailOf : KernelModel → KernelInput → ℕ → GateDetail
 detailOf m q gate =

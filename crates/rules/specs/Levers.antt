@@ -18,7 +18,7 @@ use Rattle.rules.specs.declared.records.PolicySnapshot.{PolicySnapshot}
 use Rattle.rules.specs.declared.boundary.Bound.{Bound}
 use Rattle.rules.specs.declared.boundary.Bound.the-variants.{At, Nothing}
 
--- W10. A model with the lever of a number at a value: 1 quality (W4), 2 latency (W5), 3 both prices, scaled alike (W6, W8), 4 ceiling (W7),
+-- W10. A model with the lever of a number at a value: 1 quality (W4), 2 latency (W5, F1), 3 both prices, scaled alike (W6, W8), 4 ceiling (W7),
 -- 5 enabled (W3). All else is as it is; a number that is no lever's moves nothing
 unfoldable pub leverAt : ℕ → ℕ → KernelModel → KernelModel
 leverAt lever v m = record {

@@ -1,7 +1,8 @@
 -- Sizes and limits, each named once.
 use Prim.Native.Nat.{ℕ, _-_, _^_}
 
--- bytes of a record in a bank, of a request, of a policy's six numbers, of a policy that also says how it rounds, and of an explanation record
+-- bytes of a record in a bank, of a request, of a policy's six numbers, of a policy that also says how it rounds, of one that says its allowance
+-- too, and of an explanation record
 abbrev pub recordBytes : ℕ
 recordBytes = 47
 
@@ -11,8 +12,11 @@ requestBytes = 70
 abbrev pub policyBytes : ℕ
 policyBytes = 30
 
+abbrev pub roundedPolicyBytes : ℕ
+roundedPolicyBytes = 31
+
 abbrev pub longestPolicyBytes : ℕ
-longestPolicyBytes = 31
+longestPolicyBytes = 35
 
 abbrev pub explanationBytes : ℕ
 explanationBytes = 72

@@ -14,7 +14,7 @@ use Rattle.rules.specs.Decide.{decisionOf, countsIn, requestFaults}
 use Rattle.rules.specs.Win.{winIn}
 use Rattle.rules.specs.Margin.{marginIn}
 use Rattle.rules.specs.Validate.{catalogFaults}
-use Rattle.rules.specs.Stored.{bodyOf, afterOf, afterDue, formFaults, storedPolicy, storedBank}
+use Rattle.rules.specs.Stored.{bodyOf, afterDue, afterRounding, formFaults, storedPolicy, storedBank}
 use Rattle.rules.specs.Text.{text, decimal, signedDecimal, line}
 use Rattle.rules.specs.declared.records.KernelInput.{KernelInput}
 use Rattle.rules.specs.declared.records.PolicySnapshot.{PolicySnapshot}
@@ -60,17 +60,17 @@ refusedLine f = line (text "refused") (decimal (f .number) ∷ [])
 
 -- ---- the unit's program
 
--- X3, O3. What its input says: tags 1, 2 and 4 as in a stored form, tag 3
+-- X3, O3, F3. What its input says: tags 1, 2, 4 and 5 as in a stored form, tag 3
 abbrev pub programTags : List ℕ
-programTags = 1 ∷ 2 ∷ 4 ∷ 3 ∷ []
+programTags = 1 ∷ 2 ∷ 4 ∷ 5 ∷ 3 ∷ []
 
 abbrev pub programModels : List ℕ → List Listed
 programModels input = listedOf (storedBank input)
 
 abbrev pub programRequest : List ℕ → KernelInput
-programRequest input = inputOf (bodyOf (afterDue 4 (afterOf (afterOf input))))
+programRequest input = inputOf (bodyOf (afterDue 5 (afterRounding input)))
 
--- N19, X3, O4. Its tests: 20 to 23 over its fields, 19, validation, 3
+-- N19, X3, O4, F4. Its tests: 20 to 23 and 25 over its fields, 19, validation, 3
 unfoldable pub programFaults : List ℕ → Faults
 programFaults input =
     formFaults programTags input

@@ -4,7 +4,7 @@ use mathlib.Core.List.{List, [], _∷_, _++_}
 use lib.ListN.{length, take, drop}
 use mir.Syntax.{w64}
 use mir.Val.{toZ, ofZ}
-use Rattle.rules.specs.Limits.{recordBytes, policyBytes}
+use Rattle.rules.specs.Limits.{recordBytes, policyBytes, roundedPolicyBytes}
 use Rattle.rules.specs.Choice.{equal}
 use Rattle.rules.specs.Bytes.{numberAt, packed}
 use Rattle.rules.specs.declared.records.KernelModel.{KernelModel}
@@ -93,9 +93,9 @@ roundingNo Once = 1
 abbrev pub roundingOf : ℕ → Rounding
 roundingOf n = equal n 1 Once Apart
 
--- B10. The policy whose six numbers 30 bytes say, and that rounds so
-unfoldable pub policyWith : Rounding → List ℕ → PolicySnapshot
-policyWith r s = record {
+-- B10. The policy whose six numbers 30 bytes say, that rounds so and has this allowance
+unfoldable pub policyWith : Rounding → ℕ → List ℕ → PolicySnapshot
+policyWith r allowance s = record {
   «policy_epoch» = numberAt s 0 8;
   «catalog_epoch» = numberAt s 8 8;
   «hard_risk_limit_bps» = numberAt s 16 2;
@@ -103,11 +103,13 @@ policyWith r s = record {
   «risk_penalty_multiplier_bps» = numberAt s 20 2;
   «latency_penalty_microunits_per_ms» = numberAt s 22 8;
   rounding = r;
+  «latency_allowance_ms» = allowance;
 }
 
--- O2. The policy that 30 bytes say, which rounds apart: a byte that isn't there reads as 0. Or 31, of which the last says how it rounds
+-- O2, F2. The policy that 30 bytes say, which rounds apart and has no allowance: a byte that isn't there reads as 0. Or 31, of which the last says how
+-- it rounds. Or 35, of which the last four say the allowance
 unfoldable pub policyOf : List ℕ → PolicySnapshot
-policyOf s = policyWith (roundingOf (numberAt s policyBytes 1)) s
+policyOf s = policyWith (roundingOf (numberAt s policyBytes 1)) (numberAt s roundedPolicyBytes 4) s
 
 -- B10. A policy's numbers, each beside its width, and the bytes that say them
 abbrev pub policyNumbers : PolicySnapshot → List (ℕ × ℕ)
@@ -123,9 +125,9 @@ policyNumbers p =
 abbrev pub policyNumberBytes : PolicySnapshot → List ℕ
 policyNumberBytes p = packed (policyNumbers p)
 
--- O2. The same with how it rounds: the longest form, in which a policy is handed back
+-- O2, F2. The same with how it rounds and its allowance: the longest form, in which a policy is handed back
 abbrev pub policyFields : PolicySnapshot → List (ℕ × ℕ)
-policyFields p = policyNumbers p ++ (1, roundingNo (p .rounding)) ∷ []
+policyFields p = policyNumbers p ++ (1, roundingNo (p .rounding)) ∷ (4, p .«latency_allowance_ms») ∷ []
 
 abbrev pub policyInBytes : PolicySnapshot → List ℕ
 policyInBytes p = packed (policyFields p)

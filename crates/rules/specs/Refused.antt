@@ -62,6 +62,7 @@ toldRefusal refusal.CutShort = fault 20
 toldRefusal refusal.WrongTag = fault 21
 toldRefusal refusal.WrongLength = fault 22
 toldRefusal refusal.UnknownRounding = fault 23
+toldRefusal refusal.ZeroAllowance = fault 25
 toldRefusal refusal.EpochSpent = fault 27
 toldRefusal refusal.NoFreeSlot = fault 28
 toldRefusal refusal.SlotNotClear = fault 34

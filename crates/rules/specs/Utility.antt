@@ -1,5 +1,5 @@
--- Document 01, "Deciding": the terms of a utility, and the utility.
-use Prim.Native.Nat.{ℕ, min, _*_, _/_}
+-- Document 01, "Deciding": the terms of a utility, and the utility; document 02, f: the milliseconds that are free.
+use Prim.Native.Nat.{ℕ, min, _-_, _*_, _/_}
 use lib.IntN.{ℤ, pos, negsuc, _-ℤ_}
 use Rattle.rules.specs.Limits.{scaledBasisPoints, maxI64}
 use Rattle.rules.specs.declared.records.KernelModel.{KernelModel}
@@ -23,9 +23,13 @@ qualityTermOf m q = shareOf (orZero (q .«business_value_microunits»)) (q .«co
 unfoldable pub riskTermOf : PolicySnapshot → KernelInput → ℕ
 riskTermOf p q = shareOf (orZero (q .«business_value_microunits»)) (q .«risk_bps») (p .«risk_penalty_multiplier_bps»)
 
--- D18. The latency term
+-- F1. The milliseconds that are charged: those above the policy's allowance, none where there are none above it (`-` of the library stops at 0)
+unfoldable pub chargedMs : PolicySnapshot → KernelModel → ℕ
+chargedMs p m = m .«p95_latency_ms» - p .«latency_allowance_ms»
+
+-- D18, F1. The latency term
 unfoldable pub latencyTermOf : PolicySnapshot → KernelModel → ℕ
-latencyTermOf p m = m .«p95_latency_ms» * p .«latency_penalty_microunits_per_ms»
+latencyTermOf p m = chargedMs p m * p .«latency_penalty_microunits_per_ms»
 
 -- D19. An integer held within i64; `negsuc n` is -(n + 1)
 abbrev pub held : ℤ → ℤ

@@ -3,7 +3,7 @@ use crate::records::KernelInput;
 use crate::records::PolicySnapshot;
 use crate::refusal::Refusal;
 
-// The policy that 30 or 31 bytes say.
+// The policy that 30, 31 or 35 bytes say.
 pub enum PolicyRead {
     Refused(Refusal),
     Read(PolicySnapshot),

@@ -23,12 +23,14 @@ pub const MAX_PRICE_SCALE_PPM: u64 = 1_000_000_000;
 
 // A model's bytes in a bank.
 pub const RECORD_BYTES: usize = 47;
-// A request's bytes, those of a policy's six numbers, and those of a policy that also says how it rounds.
+// A request's bytes, those of a policy's six numbers, those of a policy that also says how it rounds, and of one that says its allowance too.
 pub const REQUEST_BYTES: usize = 70;
 
 pub const POLICY_BYTES: usize = 30;
 
-pub const LONGEST_POLICY_BYTES: usize = 31;
+pub const ROUNDED_POLICY_BYTES: usize = 31;
+
+pub const LONGEST_POLICY_BYTES: usize = 35;
 // All of them, in arrays.
 pub type ModelBytes = [u8; RECORD_BYTES];
 

@@ -1,4 +1,4 @@
-// What comes in: a model, a request, and a policy. Field names and order are the Rust's; how a policy rounds is ours.
+// What comes in: a model, a request, and a policy. Field names and order are the Rust's; how a policy rounds and its allowance are ours.
 ghost use mathlib.Core.Path.{_≡_};
 ghost use Rattle.rules.specs.Records.{roundingNo};
 
@@ -54,7 +54,8 @@ impl Rounding {
     }
 }
 
-// The policy's six numbers, and how it rounds a cost. The bank stands beside it, lent by the caller.
+// The policy's six numbers, how it rounds a cost, and how many milliseconds of a latency are free of the penalty. The bank stands beside it, lent by
+// the caller.
 pub struct PolicySnapshot {
     pub policy_epoch: u64,
     pub catalog_epoch: u64,
@@ -63,4 +64,6 @@ pub struct PolicySnapshot {
     pub risk_penalty_multiplier_bps: u16,
     pub latency_penalty_microunits_per_ms: u64,
     pub rounding: Rounding,
+    // 0 is none. The latency gate compares the full figure.
+    pub latency_allowance_ms: u32,
 }

@@ -66,6 +66,8 @@ pub enum Refusal {
     WrongLength,
     // 23
     UnknownRounding,
+    // 25: an allowance of 0 where one is said.
+    ZeroAllowance,
     // 27: the catalogue epoch is at its largest.
     EpochSpent,
     // 28
@@ -113,6 +115,7 @@ impl Refusal {
             Refusal::WrongTag => 21,
             Refusal::WrongLength => 22,
             Refusal::UnknownRounding => 23,
+            Refusal::ZeroAllowance => 25,
             Refusal::EpochSpent => 27,
             Refusal::NoFreeSlot => 28,
             Refusal::SlotNotClear => 34,

@@ -3,6 +3,7 @@ pub mod Writing
 pub mod Reading
 pub mod Answers
 pub mod Trips
+pub mod Optional
 pub mod FormTrips
 pub mod RoundTrips
 pub mod Before

@@ -1,7 +1,7 @@
 -- What is read: the parts of a form that passes, and what refuses one. Assumes nothing.
-use Rattle.rules.proofs.Kit.{ℕ, _≤_, _<_, _≡_, refl, sym, ap, _∙_, List, [], _∷_, length}
+use Rattle.rules.proofs.Kit.{ℕ, _≤_, _<_, _≡_, sym, ap, _∙_, List, [], _∷_, length}
 use Rattle.rules.specs.{Bytes.filled, Records.inputOf, Refused.roomFaults, Refused.answered, Refused.firstFault, Refused.toldOutcome, Refused.refused}
-use Rattle.rules.specs.{Stored.bodyOf, Stored.afterOf, Stored.formFaults, Stored.storedTags, Stored.storedPolicy, Stored.storedBank, Stored.readFaults}
+use Rattle.rules.specs.{Stored.bodyOf, Stored.formFaults, Stored.storedTags, Stored.storedPolicy, Stored.storedBank, Stored.readFaults}
 use Rattle.rules.specs.{Stored.readStoredOf}
 use Rattle.rules.specs.{Stored.readStoredBuffer, Stored.readRequestOf, declared.records.KernelInput.KernelInput}
 use Rattle.rules.specs.{declared.records.PolicySnapshot.PolicySnapshot}
@@ -10,21 +10,12 @@ use Rattle.rules.specs.{declared.refusal.Outcome.the-variants.Refused}
 use Rattle.endian_writing.specs.Put.{patched}
 use Rattle.splice.proofs.Pieces.{patched-start}
 use Rattle.rules.proofs.Faults.{room-enough, append-refused, none-told, room-short, unless-none}
-use Rattle.stored_layout.proofs.{Passing.Passed, Forms.form-passed}
+use Rattle.stored_layout.proofs.Openings.{Opened, opened}
 use Rattle.rules.specs.declared.refusal.Refusal.the-variants as refusal
 
--- ---- a form that passes has its fields
-
-pub record CatalogFields (form : List ℕ) : Type 0 where
-  pub policy : Passed 1 form
-  pub bank : Passed 2 (afterOf form)
-  pub rounding : formFaults (4 ∷ []) (afterOf (afterOf form)) ≡ []
-
-pub catalog-fields : (form : List ℕ) → formFaults storedTags form ≡ [] → CatalogFields form
-catalog-fields form e =
-    let first = form-passed 1 (2 ∷ 4 ∷ []) form refl e in
-    let second = form-passed 2 (4 ∷ []) (afterOf form) refl (first .1) in
-    record { policy = first .0; bank = second .0; rounding = second .1 }
+-- A FORM THAT PASSES HAS ITS FIELDS, tags 4 and 5 among them or not
+pub catalog-fields : (form : List ℕ) → formFaults storedTags form ≡ [] → Opened [] form
+catalog-fields form e = opened [] form e
 
 -- ---- what refuses a stored form
 

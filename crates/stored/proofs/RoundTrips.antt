@@ -1,14 +1,14 @@
 -- READING WHAT WAS WRITTEN, AND WRITING WHAT WAS READ, as the four calls meet them. That each number fits its field, and each element of a
 -- form is a byte, is a premise here; the types of the calls give it. Assumes nothing.
 use Rattle.rules.proofs.Kit.{ℕ, _≤_, _≡_, refl, sym, ap, _∙_, List, [], _∷_, length, take, drop, take-at, w64, SFits}
-use Rattle.rules.specs.{Bytes.filled, Records.policyNumbers, Records.inputFields, Refused.Faults, Refused.roomFaults, Refused.listUnless, Refused.answered}
+use Rattle.rules.specs.{Bytes.filled, Records.inputFields, Refused.Faults, Refused.roomFaults, Refused.listUnless, Refused.answered}
 use Rattle.rules.specs.{Numbers.StoredPolicy, Stored.formFaults, Stored.storedForm, Stored.storedTags, Stored.writeFaults, Stored.writeStoredOf}
 use Rattle.rules.specs.{Stored.writeStoredBuffer}
 use Rattle.rules.specs.{Stored.storedPolicy, Stored.storedBank, Stored.readFaults, Stored.readStoredOf, Stored.readStoredBuffer, Stored.requestForm}
 use Rattle.rules.specs.{Stored.writeRequestOf, Stored.writeRequestBuffer, Stored.readRequestOf, declared.records.KernelInput.KernelInput}
 use Rattle.rules.specs.{declared.records.PolicySnapshot.PolicySnapshot}
 use Rattle.endian.proofs.Numbers.{Small}
-use Rattle.packing.proofs.Layouts.{Fitting}
+use Rattle.packing.proofs.{Layouts.Fitting, Trips.PolicyFits}
 use Rattle.rules.proofs.Faults.{none-first, room-enough, some-fault}
 use Rattle.stored_layout.proofs.Buffers.{none-answered}
 use Rattle.stored.proofs.FormTrips.{Storable, storable-written, storable-none, storable-read, stored-passes, stored-bank, stored-policy, stored-forth}
@@ -31,15 +31,15 @@ written-form p bank out n e =
     (storable-written p bank (length out) (t .0), front-of (writeFaults p bank (length out)) (storedForm p bank) out n (t .0) (t .1))
 
 -- A form that was written is read, where there is room
-form-read : (p : PolicySnapshot) (bank buffer : List ℕ) → Fitting (policyNumbers p) → Storable (length bank) → length bank ≤ length buffer
+form-read : (p : PolicySnapshot) (bank buffer : List ℕ) → PolicyFits p → Storable (length bank) → length bank ≤ length buffer
     → (readStoredOf (storedForm p bank) (length buffer) ≡ answered (record { policy = p; size = length bank }))
     × (readStoredBuffer (storedForm p bank) buffer ≡ filled bank buffer)
 unfolding readStoredOf readStoredBuffer readFaults
 form-read p bank buffer fit s h =
-    rw (stored-passes p bank s, stored-bank p bank s, stored-policy p bank s fit, room-enough (length bank) (length buffer) h) (refl, refl)
+    rw (stored-passes p bank s fit, stored-bank p bank s, stored-policy p bank s fit, room-enough (length bank) (length buffer) h) (refl, refl)
 
 -- READING WHAT WAS WRITTEN GIVES THE SAME POLICY AND BANK
-pub write-then-read : (p : PolicySnapshot) (bank out buffer : List ℕ) (n : ℕ) → Fitting (policyNumbers p)
+pub write-then-read : (p : PolicySnapshot) (bank out buffer : List ℕ) (n : ℕ) → PolicyFits p
     → writeStoredOf p bank (length out) ≡ answered n → length bank ≤ length buffer
     → (readStoredOf (take n (writeStoredBuffer p bank out)) (length buffer) ≡ answered (record { policy = p; size = length bank }))
     × (readStoredBuffer (take n (writeStoredBuffer p bank out)) buffer ≡ filled bank buffer)

@@ -77,6 +77,19 @@ module _ (tag : ℕ) (body rest : List ℕ) where
           body = rw body-back b;
         }
 
+-- and one that is the last
+module _ (tag : ℕ) (body : List ℕ) (h : length body < 65536) where
+  pub last-body : bodyOf (fieldBytes tag body) ≡ body
+  last-body = ap bodyOf (sym (append-nil (fieldBytes tag body))) ∙ body-back tag body [] h
+
+  pub last-passes : fits tag (length body) ≡ true → bodyFaults tag body ≡ [] → Passed tag (fieldBytes tag body)
+  last-passes f b = rw append-nil at (written-passes tag body [] h f b)
+
+  pub last-form : Passed tag (fieldBytes tag body) → formFaults (tag ∷ []) (fieldBytes tag body) ≡ []
+  last-form p =
+      let nothing : afterOf (fieldBytes tag body) ≡ [] = ap afterOf (sym (append-nil (fieldBytes tag body))) ∙ rest-back tag body [] h in
+      form-passes tag [] (fieldBytes tag body) p (ap (formFaults []) nothing ∙ end-passes)
+
 -- ---- a field that was read
 
 -- its body and what stands after it
@@ -85,6 +98,15 @@ unfolding bodyOf afterOf
 parts s =
     ap (λ (t : List ℕ). take (bodyLength s) (drop fieldHeaderBytes s) ++ t) (sym (drop-drop (bodyLength s) fieldHeaderBytes s))
     ∙ take-append-drop (bodyLength s) (drop fieldHeaderBytes s)
+
+-- each of small bytes
+pub small-body : (s : List ℕ) → Small s → Small (bodyOf s)
+unfolding bodyOf
+small-body s small = small-take (bodyLength s) (drop fieldHeaderBytes s) (small-drop fieldHeaderBytes s small)
+
+pub small-after : (s : List ℕ) → Small s → Small (afterOf s)
+unfolding afterOf
+small-after s small = small-drop (fieldHeaderBytes + bodyLength s) s small
 
 -- A FIELD THAT PASSES IS WRITTEN AS IT WAS, before what stood after it
 pub field-forth : (tag : ℕ) (s : List ℕ) → Small s → Passed tag s → fieldBytes tag (bodyOf s) ++ afterOf s ≡ s

@@ -1,2 +1,4 @@
 -- Laws of one field.
+pub mod Lengths
+pub mod Bodies
 pub mod OneField

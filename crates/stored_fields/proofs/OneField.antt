@@ -1,36 +1,19 @@
 -- One field, by cases: which premises lead to which answer. Assumes nothing.
-use Rattle.rules.proofs.Kit.{ℕ, _+_, _≤_, _<_, _≡_, refl, sym, _∙_, Bool, true, false, not, _&&_, List, [], _∷_, _++_, arith, lt-ltb, le-ltb}
-use Rattle.rules.proofs.Kit.{eq-eqb, ne-eqb, eqb-true, eqb, ltb, length, getD}
-use Rattle.rules.specs.{Limits.fieldHeaderBytes, Choice.equal, Bytes.number, Refused.fault, Refused.refuseIf, Stored.fits, Stored.tagOf, Stored.bodyLength}
-use Rattle.rules.specs.{Stored.bodyOf, Stored.bodyFaults, Stored.fieldFaults}
-use Rattle.endian.proofs.{Numbers.number-one, Spelled.byte-at}
-use Rattle.stored_fields.specs.{Fields.toldField, Fields.unknownBody, Fields.fieldSize, Fields.fieldOf, Fields.Headed}
+use Rattle.rules.proofs.Kit.{ℕ, _+_, _≤_, _<_, _≡_, sym, _∙_, true, false, not, List, [], _∷_, _++_, arith, lt-ltb, le-ltb, eq-eqb, ne-eqb, ltb, length, getD}
+use Rattle.rules.specs.{Limits.fieldHeaderBytes, Refused.fault, Refused.refuseIf, Refused.firstFault, Refused.toldOutcome, Refused.refused, Refused.answered}
+use Rattle.rules.specs.{Stored.fits, Stored.tagOf, Stored.bodyLength, Stored.bodyOf, Stored.bodyFaults, Stored.fieldFaults, declared.refusal.Refusal.Refusal}
+use Rattle.rules.specs.{declared.refusal.Outcome.Outcome}
+use Rattle.rules.proofs.Faults.{none-told, unless-refused}
+use Rattle.endian.proofs.Numbers.{number-one}
+use Rattle.stored_fields.specs.{Fields.toldField, Fields.fieldSize, Fields.fieldOf, Fields.Headed, Fields.Bodied}
 use Rattle.stored_fields.specs.{declared.Field.the-variants.Bytes, declared.Field.the-variants.Refused}
 use Rattle.rules.specs.declared.refusal.Refusal.the-variants as refusal
+use Rattle.rules.specs.declared.refusal.Outcome.the-variants as outcome
 
 -- The tag is the first byte
 pub first-tag : (s : List ℕ) → fieldHeaderBytes ≤ length s → getD s 0 0 ≡ tagOf s
 first-tag [] h = absurd (omega arith)
 first-tag (b ∷ s) h = sym (number-one b)
-
--- A body that passes is tested by its first byte
-module _ (s : List ℕ) (whole : fieldSize s ≤ length s) where
-  one-byte-body : bodyLength s ≡ 1 → number (bodyOf s) ≡ getD s fieldHeaderBytes 0
-  unfolding bodyOf
-  one-byte-body e = rw e (sym (byte-at s fieldHeaderBytes (omega arith)))
-
-  four-body : fits 4 (bodyLength s) ≡ true → number (bodyOf s) ≡ getD s fieldHeaderBytes 0
-  unfolding fits equal
-  four-body f = one-byte-body (eqb-true (bodyLength s) 1 f)
-
-  first-body : (tag : ℕ) → fits tag (bodyLength s) ≡ true → bodyFaults tag (bodyOf s) ≡ refuseIf (unknownBody tag s) (fault 23)
-  unfolding bodyFaults unknownBody
-  first-body tag f = go (eqb tag 4) refl
-    where
-      go : (b : Bool) → eqb tag 4 ≡ b
-          → refuseIf (b && not (eqb (number (bodyOf s)) 1)) (fault 23) ≡ refuseIf (b && not (eqb (getD s fieldHeaderBytes 0) 1)) (fault 23)
-      go false e = refl
-      go true e = rw (four-body (rw (eqb-true tag 4 e) at f))
 
 -- ---- the cases, in their order
 
@@ -74,14 +57,18 @@ module _ (tag : ℕ) (s : List ℕ) where
     field-short f g = rw (after-header, f, lt-ltb (length s) (fieldHeaderBytes + n) g)
 
     module _ (f : fits tag n ≡ true) (g : fieldHeaderBytes + n ≤ length s) where
-      body-left : fieldFaults tag s ≡ refuseIf (unknownBody tag s) (fault 23)
-      body-left =
-          after-header ∙ rw (f, le-ltb (length s) (fieldHeaderBytes + n) g) (first-body s (rw (← l) g) tag (rw (← l) f))
+      pub bodied : Bodied tag s
+      bodied = record { right = rw (← l) f; whole = rw (← l) g }
 
-      pub field-unknown : unknownBody tag s ≡ true → toldField (Refused refusal.UnknownRounding) ≡ fieldOf tag s
-      unfolding toldField fieldOf
-      field-unknown u = rw (body-left, u)
+      body-left : fieldFaults tag s ≡ bodyFaults tag (bodyOf s)
+      body-left = after-header ∙ rw (f, le-ltb (length s) (fieldHeaderBytes + n) g)
 
-      pub field-whole : unknownBody tag s ≡ false → toldField (Bytes (fieldHeaderBytes + n)) ≡ fieldOf tag s
-      unfolding toldField fieldOf
-      field-whole u = rw (body-left, u, ← l)
+      -- then its body decides
+      module _ {o : Outcome} (told : toldOutcome o ≡ firstFault (bodyFaults tag (bodyOf s))) where
+        pub field-refused : {r : Refusal} → o ≡ outcome.Refused r → toldField (Refused r) ≡ fieldOf tag s
+        unfolding toldField fieldOf
+        field-refused {r} e = rw body-left (sym (unless-refused (bodyFaults tag (bodyOf s)) refused (answered (fieldSize s)) e told))
+
+        pub field-whole : o ≡ outcome.Answered → toldField (Bytes (fieldHeaderBytes + n)) ≡ fieldOf tag s
+        unfolding toldField fieldOf
+        field-whole e = rw (body-left, none-told (bodyFaults tag (bodyOf s)) e told, ← l)

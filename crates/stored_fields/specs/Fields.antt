@@ -1,13 +1,12 @@
 -- A field at the front of some bytes as the reader answers it.
 use Prim.Native.Nat.{ℕ, _+_, _≤_}
 use mathlib.Core.Path.{_≡_}
-use mathlib.Core.Bool.{Bool, not, _&&_}
+use mathlib.Core.Bool.{true}
 use mathlib.Core.List.{List}
-use lib.Dec.{eqb}
 use lib.ListN.{length, getD}
 use Rattle.rules.specs.Limits.{fieldHeaderBytes}
 use Rattle.rules.specs.Refused.{toldRefusal, Answer, refused, answered, unless}
-use Rattle.rules.specs.Stored.{bodyLength, fieldFaults}
+use Rattle.rules.specs.Stored.{fits, bodyLength, fieldFaults}
 use Rattle.stored_fields.specs.declared.Field.{Field}
 use Rattle.stored_fields.specs.declared.Field.the-variants.{Bytes, Refused}
 
@@ -15,10 +14,6 @@ use Rattle.stored_fields.specs.declared.Field.the-variants.{Bytes, Refus
 unfoldable pub toldField : Field → Answer ℕ
 toldField (Bytes n) = answered n
 toldField (Refused r) = refused (toldRefusal r)
-
--- Of tag 4, another byte than 1 where the body begins
-unfoldable pub unknownBody : ℕ → List ℕ → Bool
-unknownBody tag s = eqb tag 4 && not (eqb (getD s fieldHeaderBytes 0) 1)
 
 -- How many bytes the field at the front of some bytes has
 abbrev pub fieldSize : List ℕ → ℕ
@@ -32,3 +27,8 @@ fieldOf tag s = unless (fieldFaults tag s) refused (answered (fieldSize s))
 pub record Headed (tag : ℕ) (s : List ℕ) : Type 0 where
   pub long : fieldHeaderBytes ≤ length s
   pub lead : getD s 0 0 ≡ tag
+
+-- A whole field stands there, with a length that the tag has
+pub record Bodied (tag : ℕ) (s : List ℕ) : Type 0 where
+  pub right : fits tag (bodyLength s) ≡ true
+  pub whole : fieldSize s ≤ length s

@@ -1,9 +1,12 @@
 // For other crates: a field, which is a tag in one byte, the length of the body in two, the body. One is looked for at the front of some bytes,
 // and answered once it is seen to be whole there.
 ghost use mathlib.Core.Path.{_≡_};
-ghost use Rattle.rules.specs.Stored.{fits as fitsTag};
-ghost use Rattle.stored_fields.specs.Fields.{unknownBody, toldField, fieldOf, Headed};
+ghost use Rattle.rules.specs.Refused.{firstFault, toldOutcome};
+ghost use Rattle.rules.specs.Stored.{fits as fitsTag, bodyOf, bodyFaults};
+ghost use Rattle.stored_fields.specs.Fields.{toldField, fieldOf, Headed, Bodied};
 use endian::u16_at;
+use endian::u32_at;
+use rules::Outcome;
 use rules::Refusal;
 use rules::limits::FIELD_HEADER_BYTES;
 use rules::limits::MAX_STORED_MODELS;
@@ -19,10 +22,15 @@ pub const REQUEST_TAG: u8 = 3;
 
 pub const ROUNDING_TAG: u8 = 4;
 
+pub const ALLOWANCE_TAG: u8 = 5;
+
 // Tag 4's body: one byte, which says that the policy rounds once. Nothing else is said by it, since apart is said by its absence.
 pub const ROUNDING_BYTES: usize = 1;
 
 pub const ROUNDING_ONCE: u8 = 1;
+
+// Tag 5's body: an allowance above 0, since none is said by its absence.
+pub const ALLOWANCE_BYTES: usize = 4;
 
 // What stands where a field is looked for.
 pub enum Field {
@@ -47,24 +55,28 @@ fn fits(tag: u8, n: usize) -> bool
     if tag == ROUNDING_TAG {
         return n == ROUNDING_BYTES;
     }
+    if tag == ALLOWANCE_TAG {
+        return n == ALLOWANCE_BYTES;
+    }
     false
 }
 
-// Whether the body after a header is one that the tag doesn't have: tag 4's begins with another byte than 1.
-fn is_unknown(form: &[u8], tag: u8) -> bool
-    ensures { λ r. ⌜ r ≡ unknownBody tag (now (form .entry)) ⌝ }
+// What the body of a whole field is refused for: tag 4's 23 where it isn't 1, tag 5's 25 where it is 0.
+fn body_outcome(form: &[u8], tag: u8) -> Outcome
+    requires { ⌜ Bodied tag (now form) ⌝ }
+    ensures { λ r. ⌜ toldOutcome r ≡ firstFault (bodyFaults tag (bodyOf (now (form .entry)))) ⌝ }
 {
-    if tag != ROUNDING_TAG {
-        return false;
+    if tag == ROUNDING_TAG && form[FIELD_HEADER_BYTES] != ROUNDING_ONCE {
+        return Outcome::Refused(Refusal::UnknownRounding);
     }
-    if form.len() <= FIELD_HEADER_BYTES {
-        return true;
+    if tag == ALLOWANCE_TAG && u32_at(form, FIELD_HEADER_BYTES) == 0 {
+        return Outcome::Refused(Refusal::ZeroAllowance);
     }
-    form[FIELD_HEADER_BYTES] != ROUNDING_ONCE
+    Outcome::Answered
 }
 
 // The field at the front of some bytes, once its header with the tag stands there. Refused: 22 for a length that the tag doesn't have, 20
-// for a cut body, 23 for a body that it doesn't have.
+// for a cut body, 23 and 25 for a body that it doesn't have.
 fn headed_field(form: &[u8], tag: u8) -> Field
     requires { ⌜ Headed tag (now form) ⌝ }
     ensures { λ r. ⌜ toldField r ≡ fieldOf tag (now (form .entry)) ⌝ }
@@ -75,16 +87,16 @@ fn headed_field(form: &[u8], tag: u8) -> Field
         return Field::Refused(Refusal::WrongLength);
     }
     if size <= form.len() {
-        if is_unknown(form, tag) {
-            return Field::Refused(Refusal::UnknownRounding);
-        }
-        return Field::Bytes(size);
+        return match body_outcome(form, tag) {
+            Outcome::Refused(refusal) => Field::Refused(refusal),
+            Outcome::Answered => Field::Bytes(size),
+        };
     }
     Field::Refused(Refusal::CutShort)
 }
 
 // The field with a tag at the front of some bytes. Refused: 21 where no byte stands there, 20 for a cut header, 21 for another tag, then
-// 22, 20, 23.
+// 22, 20, 23, 25.
 pub fn front_field(form: &[u8], tag: u8) -> Field
     ensures { λ r. ⌜ toldField r ≡ fieldOf tag (now (form .entry)) ⌝ }
 {

@@ -1,23 +1,29 @@
 -- A field that is due and may be missing: which premises lead to which answer, and what the reader's answer tells. Assumes nothing.
 use Rattle.rules.proofs.Kit.{ℕ, _≤_, _≡_, refl, sym, ap, _∙_, Bool, true, false, not, cond, List, [], _∷_, _++_, arith, eqb, length, getD, drop}
-use Rattle.rules.proofs.Kit.{drop-of-length-le}
+use Rattle.rules.proofs.Kit.{drop-of-length-le, ne-eqb, false≢true}
 use Rattle.rules.specs.{Bytes.number, Refused.Faults, Refused.refused, Refused.answered, Refused.unless, Refused.toldRefusal, Refused.firstFault}
-use Rattle.rules.specs.{Refused.toldOutcome, Stored.afterOf, Stored.leftOut, Stored.dueFaults, Stored.afterDue, declared.refusal.Refusal.Refusal}
+use Rattle.rules.specs.{Refused.toldOutcome, Stored.tagOf, Stored.afterOf, Stored.leftOut, Stored.dueFaults, Stored.afterDue, declared.refusal.Refusal.Refusal}
 use Rattle.endian.proofs.Spelled.{byte-at}
 use Rattle.stored_fields.specs.{Fields.toldField, Fields.fieldSize, Fields.fieldOf, declared.Field.Field, declared.Field.the-variants.Bytes}
 use Rattle.stored_fields.specs.{declared.Field.the-variants.Refused}
 use Rattle.stored_layout.specs.Layout.{dueSize, dueOf}
-use Rattle.stored_layout.proofs.{Passing.Passed, Passing.field-passed, Buffers.none-answered}
+use Rattle.stored_layout.proofs.{Passing.Passed, Passing.optional, Passing.field-passed, Buffers.none-answered}
 use Rattle.rules.specs.declared.refusal.Outcome.the-variants as outcome
 
--- Tag 4 is missing where no byte stands, or another one
-module _ (tag : ℕ) (s : List ℕ) (four : tag ≡ 4) where
+-- A TAG THAT MAY BE MISSING is, where another byte stands, or none: there its byte reads as 0
+module _ (tag : ℕ) (s : List ℕ) (may : optional tag ≡ true) where
+  pub left-out-other : (tagOf s ≡ tag → ⊥) → leftOut tag s ≡ true
+  left-out-other h = rw (may, ne-eqb (tagOf s) tag h)
+
+  not-zero : 0 ≡ tag → ⊥
+  not-zero e = false≢true (rw (← e) at may)
+
   pub left-out-none : length s ≡ 0 → true ≡ leftOut tag s
   unfolding number
-  left-out-none e = rw (four, drop-of-length-le s {i = 0} (omega arith))
+  left-out-none e = rw (may, drop-of-length-le s {i = 0} (omega arith), ne-eqb 0 tag not-zero)
 
-  pub left-out-byte : (length s ≡ 0 → ⊥) → not (eqb (getD s 0 0) 4) ≡ leftOut tag s
-  left-out-byte h = rw (four, byte-at s 0 (omega (arith, h)))
+  pub left-out-byte : (length s ≡ 0 → ⊥) → not (eqb (getD s 0 0) tag) ≡ leftOut tag s
+  left-out-byte h = rw (may, byte-at s 0 (omega (arith, h)))
 
 -- A FIELD THAT MAY BE MISSING, missing or not
 module _ (tag : ℕ) (s : List ℕ) where

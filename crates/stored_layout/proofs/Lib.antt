@@ -5,3 +5,4 @@ pub mod Due
 pub mod Forms
 pub mod Before
 pub mod Lengths
+pub mod Openings

@@ -1,9 +1,10 @@
 -- What a field that passes says of the bytes. Assumes nothing.
-use Rattle.rules.proofs.Kit.{ℕ, _+_, _≡_, refl, Bool, true, false, not, _&&_, List, [], _++_, arith, not-false, eq-eqb, eqb, ltb, length, length-take}
-use Rattle.rules.proofs.Kit.{length-drop}
+use Rattle.rules.proofs.Kit.{ℕ, _+_, _≡_, refl, Bool, true, false, not, _&&_, _||_, List, [], _++_, arith, not-false, eq-eqb, ne-eqb, eqb-true, not-true, eqb, ltb}
+use Rattle.rules.proofs.Kit.{length, length-take, length-drop}
 use Rattle.rules.specs.{Limits.fieldHeaderBytes, Refused.fault, Refused.refuseIf, Stored.fits, Stored.tagOf, Stored.bodyLength, Stored.bodyOf}
 use Rattle.rules.specs.{Stored.bodyFaults, Stored.fieldFaults, Stored.leftOut}
 use Rattle.rules.proofs.Faults.{none-first, none-after, test-none, below-none, equal-none}
+use Rattle.stored_fields.specs.Fields.{Bodied}
 use Rattle.stored_layout.specs.Layout.{Whole}
 
 -- A field that passes: it has its tag, a length and a body that the tag has, and is not cut
@@ -29,14 +30,32 @@ field-passed tag s e =
       body = none-after (header ++ tags ++ sizes ++ cuts) _ e;
     }
 
--- Its body is as long as it says
+-- Its body stands there whole
+pub bodied : {tag : ℕ} {s : List ℕ} → Passed tag s → Bodied tag s
+bodied p = record { right = p .right; whole = p .whole }
+
+-- and is as long as it says
 pub body-length : (s : List ℕ) → Whole s → length (bodyOf s) ≡ bodyLength s
 unfolding bodyOf
 body-length s w = simp (length-take, length-drop) (omega arith)
 
--- It is not missing
+-- The tags that may be left out
+abbrev pub optional : ℕ → Bool
+optional tag = eqb tag 4 || eqb tag 5
+
+module _ (tag : ℕ) where
+  pub four-optional : tag ≡ 4 → optional tag ≡ true
+  four-optional e = rw e
+
+  pub five-optional : not (eqb tag 5) ≡ false → optional tag ≡ true
+  five-optional e = rw (eqb-true tag 5 (not-false (eqb tag 5) e))
+
+  pub other-due : (tag ≡ 4 → ⊥) → not (eqb tag 5) ≡ true → optional tag ≡ false
+  other-due h e = rw (ne-eqb tag 4 h, not-true (eqb tag 5) e)
+
+-- One that passes is not
 pub passed-there : (tag : ℕ) (s : List ℕ) → Passed tag s → leftOut tag s ≡ false
-passed-there tag s p = rw (eq-eqb (tagOf s) tag (p .lead)) (go (eqb tag 4))
+passed-there tag s p = rw (eq-eqb (tagOf s) tag (p .lead)) (go (optional tag))
   where
     go : (b : Bool) → (b && false) ≡ false
     go true = refl

@@ -65,10 +65,31 @@ fn bank_length(faults: usize, place: usize) -> usize
     BANK
 }
 
-// A policy with a 31st byte is as long as that.
-fn policy_length(faults: usize, place: usize) -> usize
-    ensures { λ r. ⌜ r ≤ 31 ⌝ }
+// A policy's bytes up to its allowance, and one more.
+const POLICY_ROOM: usize = 36;
+
+// The length of one that says an allowance: a part of that is missing, or there is a byte too many.
+fn allowing_length(faults: usize, place: usize) -> usize
+    ensures { λ r. ⌜ r ≤ 36 ⌝ }
 {
+    if !has(faults, owed::SHORT_POLICY) {
+        return 35;
+    }
+    match place % 4 {
+        0 => 32,
+        1 => 33,
+        2 => 34,
+        _ => POLICY_ROOM,
+    }
+}
+
+// A policy with a 31st byte is as long as that, unless it says an allowance.
+fn policy_length(faults: usize, place: usize) -> usize
+    ensures { λ r. ⌜ r ≤ 36 ⌝ }
+{
+    if has(faults, owed::ALLOWING) {
+        return allowing_length(faults, place);
+    }
     if has(faults, owed::SHORT_POLICY) {
         return place % 30;
     }
@@ -79,11 +100,20 @@ fn policy_length(faults: usize, place: usize) -> usize
     }
 }
 
-// The policy, and a 31st byte that says nothing.
-fn policy_of(example: [u8; EXAMPLE_BYTES], place: usize) -> [u8; 31] {
-    let mut policy = [0u8; 31];
+// The 31st byte: one that says nothing where that is among the faults, else either way to round.
+fn rounding_of(faults: usize, place: usize) -> u8 {
+    if has(faults, owed::BAD_ROUNDING) {
+        return (2 + place % 254) as u8;
+    }
+    (place % 2) as u8
+}
+
+// The policy, a 31st byte, four that say an allowance, which may be 0, and one too many.
+fn policy_of(example: [u8; EXAMPLE_BYTES], faults: usize, place: usize) -> Policy {
+    let mut policy = [0u8; POLICY_ROOM];
     put_bytes(&mut policy, 0, &example[POLICY..POLICY + 30]);
-    policy[30] = (2 + place % 254) as u8;
+    policy[30] = rounding_of(faults, place);
+    policy[31 + place % 4] = (place % 256) as u8;
     policy
 }
 
@@ -105,7 +135,7 @@ fn offer_start(call: usize) -> usize
     if call < 7 { REQUEST } else { MODELS }
 }
 
-type Policy = [u8; 31];
+type Policy = [u8; POLICY_ROOM];
 
 type Bank = [u8; BANK];
 
@@ -149,7 +179,7 @@ fn asked_of(
     out: &mut Out,
     o: usize,
 ) -> u64
-    requires { ⌜ (p ≤ 31) × (b ≤ 141) × (o ≤ 183) ⌝ }
+    requires { ⌜ (p ≤ 36) × (b ≤ 141) × (o ≤ 183) ⌝ }
 {
     asked_parts(call, policy, p, bank, b, offered, list, out, o)
 }
@@ -172,7 +202,7 @@ fn same_out(a: &Out, b: &Out) -> bool {
 
 // Whether a call tells what is owed, and leaves everything as it was.
 fn is_refused(example: [u8; EXAMPLE_BYTES], call: usize, faults: usize, place: usize) -> bool {
-    let mut policy = policy_of(example, place);
+    let mut policy = policy_of(example, faults, place);
     let mut bank = bank_of(example, faults, place);
     let mut list = [MARK; 216];
     let mut out = [MARK; 183];

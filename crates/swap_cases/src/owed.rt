@@ -3,8 +3,8 @@
 ghost use Prim.Native.Nat.{_≤_};
 
 // Faults are the digits of a number: 1 a request or record of another length, 2 a policy of another length, 4 its 31st byte neither 0 nor 1, 8 a
-// bank that isn't whole, 16 a slot with id 0 and another byte set, 32 too little room.
-pub(crate) const FAULTS: usize = 64;
+// bank that isn't whole, 16 a slot with id 0 and another byte set, 32 too little room. 64 is no fault: the policy says an allowance.
+pub(crate) const FAULTS: usize = 128;
 
 pub(crate) const SHORT_OFFER: usize = 1;
 
@@ -18,6 +18,8 @@ pub(crate) const UNCLEAR: usize = 16;
 
 pub(crate) const NO_ROOM: usize = 32;
 
+pub(crate) const ALLOWING: usize = 64;
+
 // Whether a set of faults has one.
 pub(crate) fn has(faults: usize, one: usize) -> bool {
     match one {
@@ -26,7 +28,8 @@ pub(crate) fn has(faults: usize, one: usize) -> bool {
         4 => faults / 4 % 2 == 1,
         8 => faults / 8 % 2 == 1,
         16 => faults / 16 % 2 == 1,
-        _ => faults / 32 % 2 == 1,
+        32 => faults / 32 % 2 == 1,
+        _ => faults / 64 % 2 == 1,
     }
 }
 

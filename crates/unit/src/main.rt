@@ -1,5 +1,5 @@
 // The unit's program: standard input has the policy, the bank and the request as fields; standard output gets the answer. What it answers
-// depends on no byte after the first 65,632, so it reads no more.
+// depends on no byte after the first 65,639, so it reads no more.
 ghost use mathlib.Core.Path.{_≡_};
 ghost use Prim.Native.Nat.{_≤_};
 ghost use lib.ListN.{length, take};

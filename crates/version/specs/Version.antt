@@ -5,6 +5,6 @@ use Prim.Native.Nat.{ℕ, _+_, _*_}
 abbrev pub versionNumber : ℕ → ℕ → ℕ → ℕ
 versionNumber major minor patch = 1000000 * major + 1000 * minor + patch
 
--- This one: 0.4.0, as the file VERSION says
+-- This one: 0.5.0, as the file VERSION says
 abbrev pub thisVersion : ℕ
-thisVersion = versionNumber 0 4 0
+thisVersion = versionNumber 0 5 0

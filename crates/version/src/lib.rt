@@ -5,11 +5,11 @@ ghost use Rattle.version.specs.Version.{thisVersion};
 
 const MAJOR: u64 = 0;
 
-const MINOR: u64 = 4;
+const MINOR: u64 = 5;
 
 const PATCH: u64 = 0;
 
-// The three parts as one number: 4000 is 0.4.0, and 1002003 would be 1.2.3.
+// The three parts as one number: 5000 is 0.5.0, and 1002003 would be 1.2.3.
 pub fn version_number() -> u64
     ensures { λ r. ⌜ r ≡ thisVersion ⌝ }
 {

@@ -3,7 +3,7 @@
 use Rattle.rules.proofs.Kit.{ℕ, _+_, _*_, _^_, refl, List, [], _∷_, _++_, map, Option, some, take, replicate}
 use Rattle.rules.specs.{Refused.Fault, Refused.fault, Refused.firstFault, Slots.freeSlot}
 use Rattle.rules.proofs.{Opened.rules, Rows.Row, Rows.says, Example.bank, Example.modelOne, Example.modelTwo, Example.policy, Example.request}
-use Rattle.rules.proofs.Example.{uneven, with, named}
+use Rattle.rules.proofs.{Example.uneven, Example.with, Example.named, AllowanceRows.allowing}
 use Rattle.endian_writing.specs.Put.{patched}
 use Rattle.export_checks.specs.Checks.{lent, handed}
 use Rattle.export_live_checks.specs.LiveChecks.{liveCallFaults, liveCheckedFaults}
@@ -79,6 +79,10 @@ once = policy ++ (1 ∷ [])
 abbrev onceRaised : List ℕ
 onceRaised = with 8 (4 ∷ []) once
 
+-- and one with an allowance besides
+abbrev allowed : List ℕ
+allowed = with 30 (1 ∷ []) (allowing 200 policy)
+
 -- model 2 switched off
 abbrev otherTwo : List ℕ
 otherTwo = with 10 (0 ∷ []) modelTwo
@@ -91,6 +95,9 @@ leftRows =
     ∷ says "removed from its slot" (removeCall (stock once bank) 1 two) ((0, 0 ∷ 0 ∷ []), stock onceRaised gap) refl
     ∷ says "the gap closed, one live" (compactCall (stock once gap) two) ((0, 1 ∷ 0 ∷ []), stock onceRaised (modelTwo ++ freeSlot)) refl
     ∷ says "nothing to close, raised all the same" (compactCall (stock once bank) (two ++ two)) ((0, 2 ∷ 0 ∷ two), stock onceRaised bank) refl
+    ∷ says "how a policy rounds and its allowance stay" (map (λ e. e .1 .policy) (edited allowed gap otherTwo 2 two))
+    (allowed ∷ with 8 (4 ∷ []) allowed ∷ with 8 (4 ∷ []) allowed ∷ with 8 (4 ∷ []) allowed ∷ [])
+    refl
     ∷ says "found in slot 1" (liveFindCall gap 2 two) (0, 1 ∷ 0 ∷ []) refl
     ∷ says "id 0 is nowhere" (liveFindCall gap 0 two) (0, 255 ∷ 255 ∷ []) refl
     ∷ []

@@ -5,7 +5,7 @@ use export_batch::batch_delivered;
 ghost use mathlib.Core.Path.{_≡_};
 ghost use Rattle.export_batch.specs.Batches.{lentRow, batchCall, batchCheckedCall};
 
-// The decision on each request, without its counts. `policy` is 30 bytes or 31, `requests` 70 for each of `count`, `bank` whole records, `out` has
+// The decision on each request, without its counts. `policy` is 30, 31 or 35 bytes, `requests` 70 for each of `count`, `bank` whole records, `out` has
 // room for 65 for each. Refused: 22 for the requests' length, a count above 2^32 - 1 or the policy's length, 23 for the policy's 31st byte, then 1,
 // 2, 4. Written, at 65 times a request's place: its decision, the first 65 bytes of `volankizo_prescribe`'s answer.
 #[no_mangle]

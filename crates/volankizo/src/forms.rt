@@ -23,9 +23,10 @@ pub extern "C" fn volankizo_record_at(bank: &[u8], place: u64, out: &mut [u8]) -
     offset_delivered(bank, place, out)
 }
 
-// The stored form of a policy with its bank. `policy` is 30 bytes or 31, `bank` whole records, `out` has room for 36 bytes more than the
-// bank, or for 40 where the policy rounds once. Refused: 22, 23, 1, 2, 18, 4. Written, each with its tag u8 and its length u16 before it: the
-// policy's first 30 bytes, tag 1; the bank, tag 2; where it rounds once, a byte 1, tag 4.
+// The stored form of a policy with its bank. `policy` is 30, 31 or 35 bytes, `bank` whole records, `out` has room for 36 bytes more than the
+// bank, 4 more where the policy rounds once, and 7 more where it has an allowance. Refused: 22, 23, 1, 2, 18, 4. Written, each with its tag u8 and
+// its length u16 before it: the policy's first 30 bytes, tag 1; the bank, tag 2; where it rounds once, a byte 1, tag 4; where it has an allowance,
+// that as a u32, tag 5.
 #[no_mangle]
 pub extern "C" fn volankizo_write_stored(policy: &[u8], bank: &[u8], out: &mut [u8]) -> u64
     ensures { λ r. ⌜ (r, now (out .exit)) ≡ writeStoredCall (now (policy .entry)) (now (bank .entry)) (now (out .entry)) ⌝ }
@@ -33,8 +34,8 @@ pub extern "C" fn volankizo_write_stored(policy: &[u8], bank: &[u8], out: &mut [
     stored_form_delivered(policy, bank, out)
 }
 
-// A stored form taken apart. `form` is any bytes, `bank` has room for its models, `out` for 39. Refused, with neither written: 20 to 23 at
-// each field in its turn, then 4 for `bank` or `out`. Written: `bank`, the models' bytes; `out`, by offset: 0 the policy, 31 bytes; 31 the
+// A stored form taken apart. `form` is any bytes, `bank` has room for its models, `out` for 43. Refused, with neither written: 20 to 23 and 25 at
+// each field in its turn, then 4 for `bank` or `out`. Written: `bank`, the models' bytes; `out`, by offset: 0 the policy, 35 bytes; 35 the
 // length of the bank in bytes u64.
 #[no_mangle]
 pub extern "C" fn volankizo_read_stored(form: &[u8], bank: &mut [u8], out: &mut [u8]) -> u64

@@ -1,7 +1,7 @@
 // The static library's thirty-three exported functions: here the version, decisions and what explains, checks and bounds them; in `batch` rows of
 // decisions; in `forms` a record's offset, stored and request forms, printed texts; in `live` a bank whose models are swapped, decided over and
-// edited. They speak bytes and numbers: a policy is 30 bytes, or 31 of which the last says how it rounds (0 apart, 1 once), a request 70, a bank 47
-// for each record.
+// edited. They speak bytes and numbers: a policy is 30 bytes, or 31 of which the last says how it rounds (0 apart, 1 once), or 35 with its latency
+// allowance in ms after that (u32, 0 none), a request 70, a bank 47 for each record.
 // A refusal comes back as one word, number + 2^8 field + 2^16 value + 2^32 (id or place), and 0 where the call answered. A refused
 // call writes nothing, but for a trusted bank that was ordered before it was refused. An answer goes to the start of `out`, which
 // overlaps nothing else that is lent, and the bytes after it stay as they were.
@@ -61,7 +61,7 @@ pub extern "C" fn volankizo_version() -> u64
     version_number()
 }
 
-// The decision over a bank with its nine counts. `policy` is 30 bytes or 31, `request` 70, `bank` whole records, `out` has room for 83.
+// The decision over a bank with its nine counts. `policy` is 30, 31 or 35 bytes, `request` 70, `bank` whole records, `out` has room for 83.
 // Refused: 22 for the policy's or the request's length, 23 for the policy's 31st byte, then 1, 2, 4. Written, by offset: 0 sequence u64;
 // 8 action u8; 9 reason u16; 11 model u32; 15 place u16; 17 cost u64; 25 utility i64; 33 counterfactual model u32; 37 its utility i64;
 // 45 evaluated u16; 47 eligible u16; 49 policy epoch u64; 57 catalogue epoch u64; from 65 on the counts, u16 each: disabled, quality,
@@ -78,7 +78,7 @@ pub extern "C" fn volankizo_prescribe(
     prescribe_delivered(policy, request, bank, out)
 }
 
-// The same, after the request check. `policy` is 30 bytes or 31, `request` 70, `bank` whole records, `out` has room for 83.
+// The same, after the request check. `policy` is 30, 31 or 35 bytes, `request` 70, `bank` whole records, `out` has room for 83.
 // Refused: 22, 23, 1, 2, 4, then 3. Written: the same 83 bytes.
 #[no_mangle]
 pub extern "C" fn volankizo_prescribe_checked(
@@ -92,7 +92,7 @@ pub extern "C" fn volankizo_prescribe_checked(
     prescribe_checked_delivered(policy, request, bank, out)
 }
 
-// The utility of the first listed model with an id. `policy` is 30 bytes or 31, `request` 70, `bank` whole records, `out` has room for 8.
+// The utility of the first listed model with an id. `policy` is 30, 31 or 35 bytes, `request` 70, `bank` whole records, `out` has room for 8.
 // Refused: 22, 23, 1, 2, 4, then 7 where the request is stopped, the id isn't listed, or that model isn't eligible.
 // Written: 8 bytes, the utility as an i64.
 #[no_mangle]
@@ -125,7 +125,7 @@ pub extern "C" fn volankizo_check_request(request: &[u8]) -> u64
     request_word(request)
 }
 
-// The decision, and what every record is told. `policy` is 30 bytes or 31, `request` 70, `bank` whole records, `list` has room for 72 bytes
+// The decision, and what every record is told. `policy` is 30, 31 or 35 bytes, `request` 70, `bank` whole records, `list` has room for 72 bytes
 // for each record, or none where the request is stopped, `out` for 65. Refused: 22, 23, 1, 2, then 4 for `out` or `list`.
 // Written: `out`, the first 65 bytes of `volankizo_prescribe`'s answer; `list`, by offset in each entry: 0 model u32; 4 place u16;
 // 6 verdict u8; 7 gate u8; 8, 16 bytes: measured, cost or quality term; 24, 16 bytes: limit, budget or risk term; 40 cost u64;
@@ -153,7 +153,7 @@ pub extern "C" fn volankizo_next_eligible(list: &[u8], from: u64, out: &mut [u8]
     next_delivered(list, from, out)
 }
 
-// Whether a policy with its bank may serve. `policy` is 30 bytes or 31, `bank` whole records.
+// Whether a policy with its bank may serve. `policy` is 30, 31 or 35 bytes, `bank` whole records.
 // Refused: 22, 23, 1, 2, 10, 11, then record by record 12, 13, 14, then 15. Nothing is written.
 #[no_mangle]
 pub extern "C" fn volankizo_validate(policy: &[u8], bank: &[u8]) -> u64
@@ -162,7 +162,7 @@ pub extern "C" fn volankizo_validate(policy: &[u8], bank: &[u8]) -> u64
     validate_delivered(policy, bank)
 }
 
-// Puts a bank in ascending id order, equal ids in their old order, and validates it. `policy` is 30 bytes or 31, `bank` whole records.
+// Puts a bank in ascending id order, equal ids in their old order, and validates it. `policy` is 30, 31 or 35 bytes, `bank` whole records.
 // Refused with the bank as it was: 22, 23, 1, 2, 16, 17; with the bank in order: 10, 11, then record by record 12, 13, 14, then 15.
 #[no_mangle]
 pub extern "C" fn volankizo_trust(policy: &[u8], bank: &mut [u8]) -> u64
@@ -171,7 +171,7 @@ pub extern "C" fn volankizo_trust(policy: &[u8], bank: &mut [u8]) -> u64
     trust_delivered(policy, bank)
 }
 
-// For a model that wasn't selected, the smallest change of one lever after which it is. `policy` is 30 bytes or 31, `request` 70, `bank`
+// For a model that wasn't selected, the smallest change of one lever after which it is. `policy` is 30, 31 or 35 bytes, `request` 70, `bank`
 // whole records, `out` has room for 183. Refused: 22, 23, 1, 2, 4, then 5 where the id isn't listed.
 // Written, by offset: 0 the decision, 65 bytes; 65 model u32; 69 blocked by the request u8; 70 count of levers u8; 71 passes u64; from 79
 // on four rooms of 26 bytes, in each: 0 lever u8 (0 where unused); 1 current u64; 9 boundary u64; 17 priced u8; 18 cost u64.
@@ -188,7 +188,7 @@ pub extern "C" fn volankizo_what_would_win(
     win_delivered(policy, request, bank, id, out)
 }
 
-// For the model that was selected, how far each of its levers can move before it isn't. `policy` is 30 bytes or 31, `request` 70, `bank`
+// For the model that was selected, how far each of its levers can move before it isn't. `policy` is 30, 31 or 35 bytes, `request` 70, `bank`
 // whole records, `out` has room for 183. Refused: 22, 23, 1, 2, 4, then 6 where the decision is a rejection. Written: the same 183 bytes.
 #[no_mangle]
 pub extern "C" fn volankizo_decision_margin(

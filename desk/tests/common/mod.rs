@@ -56,6 +56,15 @@ impl Folder {
         self
     }
 
+    /// With so many milliseconds of a latency free, as they stand in the policy's cell.
+    pub fn with_allowance(self, cell: &str) -> Self {
+        self.but("policy.csv", ",currency\n", ",currency,latency_allowance_ms\n").but(
+            "policy.csv",
+            ",EUR\n",
+            &format!(",EUR,{cell}\n"),
+        )
+    }
+
     /// With another text in place of one that stands in a file.
     pub fn but(self, file: &str, old: &str, new: &str) -> Self {
         let text = self.text(file);
@@ -119,6 +128,13 @@ pub fn example_list() -> Folder {
     files.iter().fold(Folder::new(), |folder, file| folder.with(file, read(file)))
 }
 
+/// The same under the example policy that leaves the first 200 ms of a latency free.
+pub fn example_list_200_ms_free() -> Folder {
+    example_list().with("policy.csv", fs::read(examples().join(FREE_POLICY)).expect("an example"))
+}
+
+pub const FREE_POLICY: &str = "policy-200-ms-free.csv";
+
 /// Numbers that look random and are the same each time.
 pub struct Dice(u64);
 
@@ -170,9 +186,10 @@ pub fn open(folder: &Folder) -> Desk {
     Desk::open(&files, &mut Warnings::default()).expect("sound files")
 }
 
-/// A list of many kinds of models under the worked example's policy.
+/// A list of many kinds of models under the worked example's policy, of every second list with an allowance that some latencies are above.
 pub fn random_list(count: usize, dice: &mut Dice) -> Desk {
     let folder = Folder::example().with("models.csv", many_models(count, dice)).but("requests.csv", "Alto", "1");
+    let folder = folder.with_allowance(["0", "", "150", "400"][dice.below(4) as usize]);
     open(&folder.but("requests.csv", "5000,0\n", "5000,none\n"))
 }
 

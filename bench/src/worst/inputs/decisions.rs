@@ -50,6 +50,17 @@ pub fn rounds_once(n: usize) -> Case {
     about_last(setting)
 }
 
+pub fn without_allowance(n: usize) -> Case {
+    shortened(second_by_id(n), POLICY_BYTES)
+}
+
+/// No latency reaches the allowance, so that nothing is taken off.
+pub fn below_allowance(n: usize) -> Case {
+    let mut setting = alike(n, Ids::LowestThenDescending);
+    setting.models.iter_mut().for_each(|m| m.p95_latency_ms = ALLOWANCE - 1);
+    about_last(setting)
+}
+
 /// Fewer gates have anything to ask.
 pub fn asks_nothing(n: usize) -> Case {
     let mut setting = alike(n, Ids::LowestThenDescending);

@@ -82,6 +82,13 @@ pub fn edit_nowhere_all_free(n: usize) -> Case {
     new(freed(second_by_id(n), |_| true))
 }
 
+/// The catalogue epoch is at its largest, so that no edit is made.
+pub fn epoch_spent_all_free(n: usize) -> Case {
+    let mut case = edit_nowhere_all_free(n);
+    case.policy[EPOCH_AT..][..8].fill(u8::MAX);
+    case
+}
+
 pub fn all_free(n: usize) -> Case {
     freed(second_by_id(n), |_| true)
 }

@@ -1,5 +1,6 @@
 //! Inputs that make a call take long, each by the number of its records. What most of them share: every record passes all eight gates, is paid by
-//! three long divisions (a price from 2^40 on, which takes the other one with it, and a value from 2^48 on) and is eligible.
+//! three long divisions (a price from 2^40 on, which takes the other one with it, and a value from 2^48 on) and is eligible; and the policy has an
+//! allowance, and so the most bytes that one has.
 mod catalogues;
 mod decisions;
 mod live;
@@ -18,7 +19,7 @@ use compare::case::{Case, Listed};
 use compare::generate::live::FREE;
 use compare::generate::random::Random;
 use compare::generate::Setting;
-use compare::second::bytes::{bank_bytes, policy_bytes, Policy, RECORD_BYTES, REQUEST_BYTES};
+use compare::second::bytes::{bank_bytes, Policy, POLICY_BYTES, RECORD_BYTES, REQUEST_BYTES, ROUNDED_POLICY_BYTES};
 use compare::second::rules::Rounding;
 use oracle::kernel::{KernelInput, KernelModel};
 
@@ -27,9 +28,13 @@ pub(super) const LONG_PRICE: u64 = 1 << 40;
 pub(super) const TOKENS: u32 = 1_000_000;
 /// With it a quality of 1 is worth 2 * 10^14, and one of 65,535 less than 2^64.
 pub(super) const VALUE: i64 = 2_000_000_000_000_000_000;
+/// Every record's latency is just this, so that it is taken off and nothing is left to be charged.
+pub(super) const ALLOWANCE: u32 = 1;
 pub(super) const ENTRY_BYTES: usize = 72;
 pub(super) const VERDICT_AT: usize = 6;
 pub(super) const ELIGIBLE: u8 = 4;
+/// The catalogue epoch in a policy.
+pub(super) const EPOCH_AT: usize = 8;
 /// The minimum quality in a request.
 pub(super) const QUALITY_AT: usize = 40;
 
@@ -74,6 +79,7 @@ pub(super) fn policy(penalty: u64) -> Policy {
         risk_penalty_multiplier_bps: 0,
         latency_penalty_microunits_per_ms: penalty,
         rounding: Rounding::Apart,
+        latency_allowance_ms: ALLOWANCE,
     }
 }
 
@@ -103,7 +109,7 @@ pub(super) fn model(id: u32) -> KernelModel {
         quality_bps: 1,
         risk_ceiling_bps: 10_000,
         enabled: 1,
-        p95_latency_ms: 0,
+        p95_latency_ms: ALLOWANCE,
         capabilities: u64::MAX,
         region_mask: u64::MAX,
         input_cost_microunits_per_million_tokens: LONG_PRICE - 1,
@@ -114,6 +120,11 @@ pub(super) fn model(id: u32) -> KernelModel {
 /// Records that differ in their ids alone.
 pub(super) fn alike(n: usize, ids: Ids) -> Setting {
     Setting { policy: policy(1), request: request(), models: ids.list(n).into_iter().map(model).collect() }
+}
+
+/// The policy's first bytes alone, which say no allowance.
+pub(super) fn shortened(case: Case, bytes: usize) -> Case {
+    Case { policy: case.policy[..bytes].to_vec(), ..case }
 }
 
 /// Asked about the last record.

@@ -1,13 +1,20 @@
 //! Searches, for a call and for a printed text: levers with boundaries at the end of the longest ways.
 use super::*;
 
+/// The quality and ceiling of the chosen record, and the quality of the others by which searches end where more of their passes are of the longer
+/// kind: the highest that there are, and the highest that may serve.
+const HIGHEST: (u16, u16) = (u16::MAX, 32_767);
+const SOUND: (u16, u16) = (10_000, 3_000);
+
 /// The last record is chosen, and loses by each of its four levers somewhere in the widest range that a record of `most` quality and ceiling has.
-fn chosen(n: usize, ids: Ids, most: u16) -> Setting {
+fn chosen(n: usize, ids: Ids, (most, others): (u16, u16)) -> Setting {
     let mut setting = alike(n, ids);
     setting.policy = policy(4_000_000_000);
+    setting.models.iter_mut().for_each(|m| m.quality_bps = others);
     let last = setting.models.last_mut().expect("there is a record");
     last.quality_bps = most;
     last.risk_ceiling_bps = most;
+    last.p95_latency_ms = 0;
     last.output_cost_microunits_per_million_tokens = 20_501_000_000_000_000;
     setting
 }
@@ -24,15 +31,23 @@ fn outranked(n: usize, ids: Ids) -> Setting {
 }
 
 pub fn four_levers(n: usize) -> Case {
-    about_last(chosen(n, Ids::LowestThenDescending, u16::MAX))
+    about_last(chosen(n, Ids::LowestThenDescending, HIGHEST))
 }
 
 pub fn four_levers_by_10_000(n: usize) -> Case {
-    about_last(chosen(n, Ids::LowestThenDescending, 10_000))
+    about_last(chosen(n, Ids::LowestThenDescending, SOUND))
+}
+
+pub fn four_levers_without_allowance(n: usize) -> Case {
+    shortened(four_levers(n), POLICY_BYTES)
 }
 
 pub fn three_levers(n: usize) -> Case {
     about_last(outranked(n, Ids::LowestThenDescending))
+}
+
+pub fn three_levers_without_allowance(n: usize) -> Case {
+    shortened(three_levers(n), POLICY_BYTES)
 }
 
 /// The ceiling alone is searched to its end: the record stands at no other gate, but below the request's risk.
@@ -60,15 +75,15 @@ pub fn quality_alone(n: usize) -> Case {
 }
 
 pub fn four_levers_lowest_last(n: usize) -> Case {
-    about_last(chosen(n, Ids::LowestLast, 10_000))
+    about_last(chosen(n, Ids::LowestLast, SOUND))
 }
 
 pub fn four_levers_in_order(n: usize) -> Case {
-    about_last(chosen(n, Ids::Ascending, 10_000))
+    about_last(chosen(n, Ids::Ascending, SOUND))
 }
 
 pub fn four_levers_descending(n: usize) -> Case {
-    about_last(chosen(n, Ids::Descending, 10_000))
+    about_last(chosen(n, Ids::Descending, SOUND))
 }
 
 pub fn three_levers_lowest_last(n: usize) -> Case {

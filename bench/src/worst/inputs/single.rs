@@ -1,18 +1,21 @@
 //! Forms, requests and single places.
 use super::*;
 
+/// The form has the fields of tags 4 and 5.
 pub fn stored_once(n: usize) -> Case {
     let mut setting = alike(n, Ids::LowestThenDescending);
     setting.policy.rounding = Rounding::Once;
     about_last(setting)
 }
 
+/// The form has the field of tag 4 alone.
+pub fn stored_once_in_31(n: usize) -> Case {
+    shortened(stored_once(n), ROUNDED_POLICY_BYTES)
+}
+
 /// The policy in 31 bytes all the same.
 pub fn stored_apart_in_31(n: usize) -> Case {
-    let setting = alike(n, Ids::LowestThenDescending);
-    let mut policy = policy_bytes(&setting.policy);
-    policy.resize(31, 0);
-    Case { policy, ..about_last(setting) }
+    shortened(second_by_id(n), ROUNDED_POLICY_BYTES)
 }
 
 fn requested(change: impl Fn(&mut KernelInput)) -> Case {

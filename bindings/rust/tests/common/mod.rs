@@ -11,10 +11,18 @@ pub const POLICY: PolicySnapshot = PolicySnapshot {
     risk_penalty_multiplier_bps: 10_000,
     latency_penalty_microunits_per_ms: 10,
     rounding: Rounding::Apart,
+    latency_allowance_ms: 0,
 };
 
 /// The same, rounding once.
 pub const ONCE: PolicySnapshot = PolicySnapshot { rounding: Rounding::Once, ..POLICY };
+
+/// The same with 200 ms of each latency free, and rounding once too.
+pub const FREE: PolicySnapshot = PolicySnapshot { latency_allowance_ms: 200, ..POLICY };
+pub const FREE_ONCE: PolicySnapshot = PolicySnapshot { rounding: Rounding::Once, ..FREE };
+
+/// Policies of every kind.
+pub const EACH: [PolicySnapshot; 4] = [POLICY, ONCE, FREE, FREE_ONCE];
 
 pub const FIRST: KernelModel = KernelModel {
     model_id: 1,

@@ -160,9 +160,10 @@ fn bounded(seen: &mut Seen, (policy, request, bank): (PolicySnapshot, KernelInpu
 
 fn stored(seen: &mut Seen, source: &mut Source) {
     let (policy, request, bank) = drawn(source);
-    let mut form = vec![0; 36 + bank.len()];
+    let policy = PolicySnapshot { latency_allowance_ms: 1 + source.below(1 << 31) as u32, ..policy };
+    let mut form = vec![0; 36 + 7 + bank.len()];
     assert_eq!(ffi::write_stored(&policy.to_bytes(), &bank, &mut form), 0);
-    let mut out = [0xaa; 39];
+    let mut out = [0xaa; 43];
     assert_eq!(ffi::read_stored(&form, &mut vec![0; bank.len()], &mut out), 0);
     seen.field("STORED_POLICY_AT", &out, policy.to_bytes());
     seen.field("STORED_BANK_LENGTH_AT", &out, (bank.len() as u64).to_le_bytes());

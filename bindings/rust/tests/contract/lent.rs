@@ -92,6 +92,7 @@ fn policy_rows() -> Vec<Row> {
         ("POLICY_RISK_MULTIPLIER_AT", pair(20_000), PolicySnapshot { risk_penalty_multiplier_bps: 20_000, ..POLICY }),
         ("POLICY_LATENCY_PENALTY_AT", word(11), PolicySnapshot { latency_penalty_microunits_per_ms: 11, ..POLICY }),
         ("POLICY_ROUNDING_AT", vec![1], PolicySnapshot { rounding: Rounding::Once, ..POLICY }),
+        ("POLICY_LATENCY_ALLOWANCE_AT", half(30), PolicySnapshot { latency_allowance_ms: 30, ..POLICY }),
     ];
     let at = |(name, bytes, moved): Field<PolicySnapshot>| {
         (name, offset(name, &POLICY.to_bytes(), &bytes, &show(&moved.to_bytes()), show))

@@ -142,6 +142,10 @@ fn refusal_rows() -> Vec<Row> {
         ("REFUSAL_WRONG_TAG", ffi::read_request(&[9, 70, 0], out)),
         ("REFUSAL_WRONG_LENGTH", ffi::check_request(&request[1..])),
         ("REFUSAL_UNKNOWN_ROUNDING", ffi::validate(&[&policy[..30], &[2]].concat(), &bank)),
+        (
+            "REFUSAL_ZERO_ALLOWANCE",
+            ffi::read_stored(&[&UNIT_INPUT[..130], &[5, 4, 0, 0, 0, 0, 0]].concat(), &mut [], out),
+        ),
         ("REFUSAL_EPOCH_SPENT", added(spent, &[0; 47], FIRST)),
         ("REFUSAL_NO_FREE_SLOT", added(POLICY, &SECOND.to_bytes(), FIRST)),
         ("REFUSAL_SLOT_NOT_CLEAR", added(POLICY, &[&[0; 46][..], &[1]].concat(), FIRST)),

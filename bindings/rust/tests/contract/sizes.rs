@@ -1,5 +1,5 @@
 //! Sizes and limits: the least length that a call takes, and the most models.
-use crate::common::{example_bank, many, ONCE, POLICY, REQUEST, SECOND};
+use crate::common::{example_bank, many, FREE, ONCE, POLICY, REQUEST, SECOND};
 use crate::Row;
 use volankizo::layout::RECORD_BYTES;
 use volankizo::{ffi, live, KernelInput, PolicySnapshot};
@@ -37,7 +37,7 @@ fn text_bytes(name: &str) -> u64 {
     8 + line.trim_end_matches(';').replace('_', "").parse::<u64>().unwrap()
 }
 
-/// The bytes of a stored form, rounded apart, with a bank of so many bytes.
+/// The bytes of a stored form, rounded apart and without an allowance, with a bank of so many bytes.
 pub fn stored_form(bank: usize) -> u64 {
     written(&POLICY, &vec![0; bank])
 }
@@ -111,12 +111,27 @@ fn rounds_to(cost: u64) -> u64 {
     found.unwrap().into()
 }
 
+/// The allowance with which 35 bytes of a policy say what 31 do.
+fn no_allowance() -> u64 {
+    let decided = |policy: &[u8]| {
+        let mut out = [0; 83];
+        assert_eq!(ffi::prescribe(policy, &REQUEST.to_bytes(), &example_bank(), &mut out), 0);
+        out
+    };
+    let rounded = &POLICY.to_bytes()[..31];
+    let same: Vec<u32> = (0..1_000)
+        .filter(|allowance: &u32| decided(&[rounded, &allowance.to_le_bytes()].concat()) == decided(rounded))
+        .collect();
+    assert_eq!(same.len(), 1, "any other lowers a latency term");
+    same[0].into()
+}
+
 pub fn rows() -> Vec<Row> {
     let (policy, request, bank) = (POLICY.to_bytes(), REQUEST.to_bytes(), example_bank());
     let (version, (_, room_bytes, rooms)) = (ffi::batch::version(), rooms());
     let taken = |length: &usize| ffi::validate(&vec![0; *length], &[]) != 22;
     let lengths: Vec<_> = (0..100).filter(taken).collect();
-    assert_eq!(lengths.len(), 2, "a policy has two lengths");
+    assert_eq!(lengths.len(), 3, "a policy has three lengths");
     let mut next = [0; 8];
     assert_eq!(ffi::next_eligible(&[], 0, &mut next), 0);
     let stopped = POLICY.prescribe(&bank, KernelInput { risk_bps: 9_000, ..REQUEST }).unwrap();
@@ -129,7 +144,8 @@ pub fn rows() -> Vec<Row> {
         ("VERSION_PATCH", version % 1_000),
         ("RECORD_BYTES", 1 + least(1, |length| ffi::find(&vec![0; length + 1], 1, &mut [0; 2]))),
         ("POLICY_BYTES", lengths[0] as u64),
-        ("LONGEST_POLICY_BYTES", lengths[1] as u64),
+        ("ROUNDED_POLICY_BYTES", lengths[1] as u64),
+        ("LONGEST_POLICY_BYTES", lengths[2] as u64),
         ("REQUEST_BYTES", request_bytes()),
         ("DECISION_BYTES", room(|out| ffi::prescribe(&policy, &request, &bank, out))),
         ("UNCOUNTED_BYTES", room(|out| ffi::batch::prescribe_batch(&policy, &request, 1, &bank, out))),
@@ -143,6 +159,7 @@ pub fn rows() -> Vec<Row> {
         ("EDIT_BYTES", room(|out| ffi::live::compact(&mut policy.clone(), &mut bank.to_vec(), out))),
         ("FIELD_HEADER_BYTES", (apart - 30) / 2),
         ("ROUNDING_FIELD_BYTES", written(&ONCE, &[]) - apart),
+        ("ALLOWANCE_FIELD_BYTES", written(&FREE, &[]) - apart),
         ("STORED_POLICY_BYTES", room(|out| ffi::read_stored(&stored(), &mut [], out))),
         ("REQUEST_FORM_BYTES", room(|out| ffi::write_request(&request, out))),
         ("UNIT_TEXT_BYTES", text_bytes("UNIT_BYTES")),
@@ -158,6 +175,7 @@ pub fn rows() -> Vec<Row> {
         ("NO_PLACE", stopped.selected_model_index.into()),
         ("NO_NEXT", u64::from_le_bytes(next)),
         ("ALL_PROVIDERS", all_providers()),
+        ("NO_ALLOWANCE", no_allowance()),
         ("ROUNDS_APART", rounds_to(2)),
         ("ROUNDS_ONCE", rounds_to(1)),
     ]

@@ -1,6 +1,6 @@
 //! `compare [--short] [--seed N] [--count N] [--from N] -- PROGRAM [WORD..]`: every call on the cases of the small spaces and on random ones,
 //! so many decisions as `count` says and the other sets by their share of it, all rounding apart; then half as many of each set, rounding either
-//! way. The library against the Rust and the second reading. PROGRAM calls the library (`answer/answer.c`), with the emulator before it where one
+//! way, and as many with an allowance. The library against the Rust and the second reading. PROGRAM calls the library (`answer/answer.c`), with the emulator before it where one
 //! is needed. Ends with 1 at the first difference.
 use compare::calls::{
     Disagreement, CALLS, CHECKED, EXPLAIN, LIVE_CHECKED, LIVE_EXPLAIN, LIVE_MARGIN, LIVE_PRESCRIBE, LIVE_WIN, MARGIN,
@@ -53,18 +53,13 @@ fn main() {
     });
     let (started, short) = (Instant::now(), if wanted.short { ", a short run" } else { "" });
     let mut run = Run { library, batch: Batch::default(), calls: 0, started, shown: started };
-    let [decisions, others] = Policies::EACH.map(|policies| DRAWS[0].count(policies, wanted.count));
-    println!(
-        "seed {}, {decisions} random decisions {} and {others} {}, from number {}{short}",
-        wanted.seed,
-        Policies::Apart,
-        Policies::Both,
-        wanted.from
-    );
+    let decisions = Policies::EACH.map(|policies| format!("{} {policies}", DRAWS[0].count(policies, wanted.count)));
+    println!("seed {}, random decisions: {}, from number {}{short}", wanted.seed, decisions.join(", "), wanted.from);
     let small = small_spaces(&mut run, wanted.short);
-    let [apart, both] = Policies::EACH.map(|policies| random_cases(&mut run, &wanted, policies));
-    print!("{}", Table(&[("small spaces", &small), ("random, apart", &apart), ("random, either way", &both)]));
-    run.close(&[small, apart, both]);
+    let [apart, both, allowing] = Policies::EACH.map(|policies| random_cases(&mut run, &wanted, policies));
+    let random = [("random, apart", &apart), ("random, either way", &both), ("random, allowing", &allowing)];
+    print!("{}", Table(&[&[("small spaces", &small)], &random[..]].concat()));
+    run.close(&[small, apart, both, allowing]);
 }
 
 fn wanted() -> Result<Wanted, String> {

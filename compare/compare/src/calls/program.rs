@@ -32,7 +32,7 @@ pub fn rules(ask: &Ask) -> Rules {
     input_of(&ask.form).map_or(Rules::RUST, |input| Rules::of(&input.policy))
 }
 
-/// The text of a call's own, or what it prints for bad input: 20 to 23 and 19, which the Rust doesn't have, then those of the judge.
+/// The text of a call's own, or what it prints for bad input: 20 to 23, 25 and 19, which the Rust doesn't have, then those of the judge.
 pub fn answer(ask: &Ask, judge: &dyn Judge, report: Report, refused: impl Fn(Refusal) -> String) -> Answer {
     let (by, told) = match input_of(&ask.form) {
         Err(refusal) => (By::Second, Err(refusal)),

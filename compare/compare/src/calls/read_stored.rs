@@ -26,8 +26,8 @@ fn list_need(ask: &Ask) -> usize {
     stored_of(&ask.form).map_or(ask.bank.len(), |(_, models)| models.len())
 }
 
-/// The form's own (at each field 21 for no byte, 20, 21, 22, 20, and of the one that says how to round 23; then 21 for a byte after the last),
-/// then 4 of either buffer.
+/// The form's own (at each field 21 for no byte, 20, 21, 22, 20, and of the one that says how to round 23, of the one that says an allowance 25; then
+/// 21 for a byte after the last), then 4 of either buffer.
 fn second(ask: &Ask) -> Passed {
     let (_, models) = stored_of(&ask.form)?;
     refusals::room(ask.list_room, models.len())?;

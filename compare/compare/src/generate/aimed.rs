@@ -43,7 +43,7 @@ fn budget(r: &mut Random, setting: &mut Setting, at: usize) {
     }
 }
 
-/// The record's utility at 0, or one below or above: with a penalty of 1 the delay takes the rest away, a unit a millisecond.
+/// The record's utility at 0, or one below or above: with a penalty of 1 the delay takes the rest away, a unit a millisecond that isn't free.
 fn utility(r: &mut Random, setting: &mut Setting, at: usize) {
     setting.policy.latency_penalty_microunits_per_ms = 1;
     let Some(terms) = terms(setting, at) else {
@@ -51,7 +51,8 @@ fn utility(r: &mut Random, setting: &mut Setting, at: usize) {
     };
     let excess = terms.utility - r.pick(&[0, 0, 1, -1]);
     let model = &mut setting.models[at];
-    if let Ok(latency) = u32::try_from(i64::from(model.p95_latency_ms).saturating_add(excess)) {
+    let from = model.p95_latency_ms.max(setting.policy.latency_allowance_ms);
+    if let Ok(latency) = u32::try_from(i64::from(from).saturating_add(excess)) {
         model.p95_latency_ms = latency;
     }
 }

@@ -79,6 +79,7 @@ fn policy(r: &mut Random, hard_risk: u16, confidence: u16, multiplier: u16, pena
         risk_penalty_multiplier_bps: multiplier,
         latency_penalty_microunits_per_ms: penalty,
         rounding: Rounding::Apart,
+        latency_allowance_ms: 0,
     }
 }
 

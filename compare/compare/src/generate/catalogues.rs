@@ -206,7 +206,7 @@ pub fn random(draw: Draw) -> Case {
     let mut r = draw.source(0xca7a);
     let records = if r.one_in(400) { 900 } else { r.pick(&[0, 1, 1, 2, 2, 2, 3, 3, 3, 5, 5, 8, 22]) };
     let mut setting = base::setting(&mut r, records);
-    draw.round(&mut setting);
+    draw.name(&mut setting);
     make_sound(&mut r, &mut setting);
     for _ in 0..r.pick(&[0, 0, 1, 1, 2, 2, 3]) {
         let at = r.place(records.max(1));

@@ -14,6 +14,7 @@ pub fn court() -> Setting {
         risk_penalty_multiplier_bps: 10_000,
         latency_penalty_microunits_per_ms: 1,
         rounding: Rounding::Apart,
+        latency_allowance_ms: 0,
     };
     let request = KernelInput {
         request_sequence: 42,

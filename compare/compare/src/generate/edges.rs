@@ -68,6 +68,11 @@ pub fn beside(r: &mut Random, number: u16) -> u16 {
     }
 }
 
+/// The same of milliseconds.
+pub fn beside_latency(r: &mut Random, number: u32) -> u32 {
+    r.pick(&[number.saturating_sub(1), number, number.saturating_add(1)])
+}
+
 pub fn amount(r: &mut Random) -> u64 {
     if r.one_in(2) {
         r.pick(&AMOUNTS)
@@ -224,6 +229,7 @@ pub fn anything(r: &mut Random, records: usize) -> Setting {
         risk_penalty_multiplier_bps: bps(r, &near),
         latency_penalty_microunits_per_ms: amount(r),
         rounding: Rounding::Apart,
+        latency_allowance_ms: 0,
     };
     let request = KernelInput {
         request_sequence: amount(r),

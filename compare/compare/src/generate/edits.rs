@@ -6,7 +6,7 @@ use super::spaces::pairs;
 use super::{base, edges, lists, Draw, Setting, Visit};
 use crate::calls::{ADD, CALLS, COMPACT, REMOVE, REPLACE};
 use crate::case::{Case, Listed, Room};
-use crate::second::bytes::{bank_bytes, POLICY_BYTES, RECORD_BYTES};
+use crate::second::bytes::{bank_bytes, LONG_POLICY_BYTES, POLICY_BYTES, RECORD_BYTES, ROUNDED_POLICY_BYTES};
 use crate::second::slots::Listing;
 use oracle::kernel::KernelModel;
 
@@ -42,19 +42,17 @@ fn asked(slots: &[Slot], id: u32) -> Case {
 }
 
 /// Every bank of up to three slots that are free, live with id 1 or 2, or spoilt, with every id to 3 offered and removed; epochs at the limit, with
-/// room and without, by a policy of either length.
+/// room and without, by a policy of each length.
 fn small_banks(visit: Visit) {
     let slots = [Slot::Free, Slot::Live(model(1)), Slot::Live(model(2)), Slot::Spoilt(RECORD_BYTES - 1)];
     for slots in rows(&slots, 3) {
-        for ((id, epoch), (room, long)) in pairs(
+        for ((id, epoch), (room, length)) in pairs(
             &pairs(&[0, 1, 2, 3], &[0, u64::MAX - 1, u64::MAX]),
-            &pairs(&[Room::ShortBy(1), Room::Exact], &[false, true]),
+            &pairs(&[Room::ShortBy(1), Room::Exact], &[POLICY_BYTES, ROUNDED_POLICY_BYTES, LONG_POLICY_BYTES]),
         ) {
             let mut case = Case { room, ..asked(&slots, id) };
             set_epoch(&mut case.policy, epoch);
-            if long {
-                case.policy.push(1);
-            }
+            case.policy.resize(length, 1);
             visit(case);
         }
     }
@@ -73,7 +71,7 @@ fn lengths(visit: Visit) {
         case.bank.resize(length, 0);
         visit(case);
     }
-    for (length, rounding) in pairs(&(0..=POLICY_BYTES + 3).collect::<Vec<_>>(), &[0, 1, 2, 255]) {
+    for (length, rounding) in pairs(&(0..=LONG_POLICY_BYTES + 3).collect::<Vec<_>>(), &[0, 1, 2, 255]) {
         let mut case = asked(&slots, 1);
         case.policy.resize(length, rounding);
         visit(case);
@@ -92,7 +90,7 @@ fn faults(visit: Visit) {
     let spoilt = bank(&[one, Slot::Spoilt(4), two]);
     let banks =
         [bank(&[Slot::Free, one, Slot::Free, two]), bank(&[two, one, one]), [&spoilt[..], &[0]].concat(), spoilt];
-    let policies = [(29, 0), (30, 0), (31, 0), (31, 1), (31, 2), (32, 2)];
+    let policies = [(29, 0), (30, 0), (31, 0), (31, 1), (31, 2), (32, 2), (34, 2), (35, 1), (35, 2), (36, 2)];
     let lent = pairs(&pairs(&[0, 46, 47, 48], &policies), &[0, 1, 2, 3]);
     for ((record, (policy, rounding)), bank) in lent {
         for ((room, id), epoch) in
@@ -183,7 +181,7 @@ impl Row {
         let mut r = draw.source(0);
         let many = if r.one_in(400) { 900 } else { r.pick(&[0, 1, 1, 2, 2, 3, 3, 4, 5, 6, 8, 22]) };
         let mut setting = base::setting(&mut r, many.max(1));
-        draw.round(&mut setting);
+        draw.name(&mut setting);
         setting.policy.catalog_epoch = match r.below(8) {
             0 => u64::MAX - r.below(STEPS),
             1 => (1 << r.between(1, 63)) - r.below(STEPS).min(1),

@@ -1,5 +1,5 @@
 //! Cases for the stored form, the request form and the programs' input: whole ones of every size, and damaged ones; of a policy that rounds
-//! apart, and of one that rounds once, whose forms have a field more.
+//! apart, of one that rounds once, whose forms have a field more, of one with an allowance, whose forms have another, and of one with both.
 use super::court::{good, over, rejected};
 use super::example::example;
 use super::large::MOST;
@@ -14,16 +14,21 @@ use crate::second::rules::Rounding;
 
 const HEADER: usize = 3;
 
-/// The example with a policy that rounds so; where the fields of the programs' input begin, and where it ends.
+/// The example with a policy that rounds so and has this allowance; where the fields of the programs' input begin, and where it ends.
 #[derive(Clone, Copy)]
 pub struct Example {
     rounding: Rounding,
+    allowance: u32,
     starts: &'static [usize],
     end: usize,
 }
 
-const APART: Example = Example { rounding: Rounding::Apart, starts: &[0, 33, 130], end: 203 };
-pub const ONCE: Example = Example { rounding: Rounding::Once, starts: &[0, 33, 130, 134], end: 207 };
+const APART: Example = Example { rounding: Rounding::Apart, allowance: 0, starts: &[0, 33, 130], end: 203 };
+pub const ONCE: Example = Example { rounding: Rounding::Once, allowance: 0, starts: &[0, 33, 130, 134], end: 207 };
+pub const ALLOWING: Example =
+    Example { rounding: Rounding::Apart, allowance: 200, starts: &[0, 33, 130, 137], end: 210 };
+pub const BOTH: Example =
+    Example { rounding: Rounding::Once, allowance: 200, starts: &[0, 33, 130, 134, 141], end: 214 };
 
 pub fn each(visit: Visit) {
     damages_of(APART, visit);
@@ -33,6 +38,13 @@ pub fn each(visit: Visit) {
 pub fn each_once(visit: Visit) {
     damages_of(ONCE, visit);
     rounding_fields(visit);
+}
+
+pub fn each_allowing(visit: Visit) {
+    damages_of(ALLOWING, visit);
+    damages_of(BOTH, visit);
+    orders_allowing(visit);
+    allowance_fields(visit);
 }
 
 fn damages_of(whole: Example, visit: Visit) {
@@ -48,8 +60,19 @@ fn damages_of(whole: Example, visit: Visit) {
 impl Example {
     fn setting(self) -> Setting {
         let mut setting = example();
-        setting.policy.rounding = self.rounding;
+        self.name(&mut setting);
         setting
+    }
+
+    /// Has the setting's policy round so, with this allowance.
+    fn name(self, setting: &mut Setting) {
+        setting.policy.rounding = self.rounding;
+        setting.policy.latency_allowance_ms = self.allowance;
+    }
+
+    /// Where the field that says the allowance stands among the others, where there is one.
+    fn allowance_at(self) -> Option<usize> {
+        (self.allowance != 0).then_some(self.starts.len() - 2)
     }
 
     /// The example, whose form is damaged so.
@@ -73,8 +96,8 @@ fn cuts(whole: Example, visit: Visit) {
     }
 }
 
-/// Every byte of every header with every value; and every other byte changed, which no test looks at but that of the field that says how to
-/// round.
+/// Every byte of every header with every value; and every other byte changed, which no test looks at but those of the fields that say how to
+/// round, and an allowance.
 fn headers(whole: Example, visit: Visit) {
     for start in whole.starts {
         for (at, byte) in pairs(&[0, 1, 2], &(0..=u8::MAX).collect::<Vec<_>>()) {
@@ -126,6 +149,63 @@ fn orders(visit: Visit) {
     }
 }
 
+/// Up to five fields in every order, of which one or more say an allowance; and any field before, between and after the five of a policy that has one
+/// and rounds once.
+fn orders_allowing(visit: Visit) {
+    let parts = [policy(), models(), request(), rounding(), allowance(), vec![9, 0, 0]];
+    let (saying, whole) = (4, [0, 1, 3, 4, 2]);
+    let mut of = |fields: Vec<usize>| {
+        let form = fields.into_iter().flat_map(|part| parts[part].clone()).collect();
+        visit(Case { formed: Formed::Bytes(form), ..example().case(1) });
+    };
+    for count in 1..=5 {
+        for order in 0..parts.len().pow(count) {
+            let fields: Vec<usize> = (0..count).map(|at| order / parts.len().pow(at) % parts.len()).collect();
+            if fields.contains(&saying) {
+                of(fields);
+            }
+        }
+    }
+    for (at, part) in pairs(&[0, 1, 2, 3, 4, 5], &[0, 1, 2, 3, 4, 5]) {
+        let mut fields = whole.to_vec();
+        fields.insert(at, part);
+        of(fields);
+    }
+}
+
+/// After the models, and after a field that says how to round, with a request and without: every byte at each place of an allowance, alone and
+/// beside others; every length of the field up to a few bytes, whole and cut; and every few bytes that may begin it.
+fn allowance_fields(visit: Visit) {
+    let stored = [policy(), models()].concat();
+    let mut each = |after: &[u8]| {
+        for (rounding, request) in pairs(&[false, true], &[false, true]) {
+            let rounding = if rounding { self::rounding() } else { Vec::new() };
+            let request = if request { self::request() } else { Vec::new() };
+            let form = [&stored[..], &rounding, after, &request].concat();
+            visit(Case { formed: Formed::Bytes(form), ..example().case(1) });
+        }
+    };
+    for (at, byte) in pairs(&[0, 1, 2, 3], &(0..=u8::MAX).collect::<Vec<_>>()) {
+        let mut body = [0; 4];
+        body[at] = byte;
+        each(&field(5, body.to_vec()));
+    }
+    for ((first, second), (third, fourth)) in pairs(&pairs(&[0, 1, 255], &[0, 255]), &pairs(&[0, 255], &[0, 128])) {
+        each(&field(5, vec![first, second, third, fourth]));
+    }
+    for (length, there) in pairs(&[0, 1, 2, 3, 4, 5, 6, 8, 256, 260, 1_024], &[0, 1, 2, 3, 4, 5, 6, 8, 260]) {
+        for body in [0, 1] {
+            each(&[&[5][..], &(length as u16).to_le_bytes(), &vec![body; there]].concat());
+        }
+    }
+    for (second, (third, fourth)) in pairs(&FEW, &pairs(&FEW, &[0, 1, 4, 5])) {
+        each(&[5]);
+        each(&[5, second]);
+        each(&[5, second, third]);
+        each(&[5, second, third, fourth]);
+    }
+}
+
 /// After the models, and then with a request and without: every body of the field that says how to round; every length of it up to a few
 /// bytes, whole and cut; and every few bytes that may begin it.
 fn rounding_fields(visit: Visit) {
@@ -172,6 +252,10 @@ fn rounding() -> Vec<u8> {
     field(4, vec![1])
 }
 
+fn allowance() -> Vec<u8> {
+    field(5, vec![200, 0, 0, 0])
+}
+
 /// Bytes after the end: few, a header, a whole field.
 fn tails(whole: Example, visit: Visit) {
     for (more, byte) in pairs(&[1, 2, 3, 4, 33, 47, 73, 100_000], &[0, 1, 2, 3, 4, 9, 255]) {
@@ -200,6 +284,11 @@ fn damages(whole: Example) -> Vec<Damage> {
     ];
     if whole.rounding == Rounding::Once {
         all.extend([Damage::Filled(2, 0), Damage::Filled(2, 2)]);
+    }
+    if let Some(at) = whole.allowance_at() {
+        all.extend([Damage::Filled(at, 0), Damage::Filled(at, 255), Damage::Body(at, -4), Damage::Body(at, -1)]);
+        all.extend([Damage::Tail(1, 5), Damage::Allowance(1, 1), Damage::Allowance(at, 0), Damage::Allowance(at, 7)]);
+        all.extend([Damage::Allowance(at + 1, 7), Damage::Allowance(5, 7), Damage::Rounding(at + 1, 1)]);
     }
     for field in 0..fields {
         all.extend([
@@ -232,7 +321,7 @@ fn two_at_once(whole: Example, visit: Visit) {
 fn rooms(whole: Example, visit: Visit) {
     for records in [0, 1, 2] {
         let case = Setting { models: mixed(records, 0).models, ..whole.setting() }.case(1);
-        for short in 0..=41 + records * RECORD_BYTES {
+        for short in 0..=45 + records * RECORD_BYTES {
             visit(Case { room: Room::ShortBy(short), ..case.clone() });
             visit(Case { list_room: Room::ShortBy(short), ..case.clone() });
         }
@@ -271,11 +360,17 @@ pub fn sizes_once(visit: Visit) {
     sizes_of(ONCE, &[0, 1, 2, 22, 900, 901, 1_393, 1_394, 1_395], visit);
 }
 
+pub fn sizes_allowing(visit: Visit) {
+    for whole in [ALLOWING, BOTH] {
+        sizes_of(whole, &[0, 1, 2, 22, 900, 901, 1_393, 1_394, 1_395], visit);
+    }
+}
+
 fn sizes_of(whole: Example, sizes: &[usize], visit: Visit) {
     for records in sizes.iter().copied() {
         let models = (0..records).map(|at| if at % 3 == 0 { good() } else { rejected(at % 9) }).collect();
         let mut setting = over(models);
-        setting.policy.rounding = whole.rounding;
+        whole.name(&mut setting);
         let case = setting.case(2);
         for room in [Room::Exact, Room::ShortBy(1), Room::LongerBy(7)] {
             visit(Case { room, list_room: room, ..case.clone() });
@@ -305,13 +400,14 @@ pub fn random(draw: Draw) -> Case {
 
 /// Any damage, near the places where a form of few records has something.
 fn damage(policies: Policies, r: &mut Random) -> Damage {
-    // Where every policy rounds apart, there is no field that says otherwise, and no damage of one.
-    let (starts, kinds) = match policies {
-        Policies::Apart => (APART.starts, 12),
-        Policies::Both => (ONCE.starts, 15),
+    // Where no policy says what a field could, there is none that says it, and no damage of one.
+    let (starts, kinds, tags) = match policies {
+        Policies::Apart => (APART.starts, 12, 7),
+        Policies::Both => (ONCE.starts, 15, 7),
+        Policies::Allowing => (BOTH.starts, 20, 9),
     };
     let (field, byte) = (r.place(starts.len()), r.draw() as u8);
-    let tag = r.pick(&[0, 1, 2, 3, 4, 9, 255]);
+    let tag = r.pick(&[0, 1, 2, 3, 4, 9, 255, 5, 5][..tags]);
     let more = r.pick(&[-94, -48, -47, -46, -3, -2, -1, 1, 2, 3, 46, 47, 48, 256]);
     let length = r.draw() as u16;
     match r.below(kinds) {
@@ -328,6 +424,8 @@ fn damage(policies: Policies, r: &mut Random) -> Damage {
         10 => Damage::Byte(starts[field] + r.place(HEADER), byte),
         11 => Damage::Tail(1 + r.place(80), tag),
         12 => Damage::Filled(2, r.pick(&[0, 1, 2, 255])),
-        _ => Damage::Rounding(r.pick(&[0, 1, 2, 2, 2, 3, 4]), r.pick(&[1, 1, 1, 0, 2, 255])),
+        13..=14 => Damage::Rounding(r.pick(&[0, 1, 2, 2, 2, 3, 4]), r.pick(&[1, 1, 1, 0, 2, 255])),
+        15..=16 => Damage::Filled(r.pick(&[2, 3]), r.pick(&[0, 0, 1, 255])),
+        _ => Damage::Allowance(r.pick(&[0, 1, 2, 2, 2, 3, 3, 3, 4]), r.pick(&[0, 0, 1, 200, 1 << 24, u32::MAX])),
     }
 }

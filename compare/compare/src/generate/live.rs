@@ -69,7 +69,7 @@ pub fn each(visit: Visit) {
 }
 
 /// Records of every verdict in the slots that a pattern leaves, before and after each gap; the request stopped or not.
-fn patterns(visit: Visit) {
+pub fn patterns(visit: Visit) {
     const SLOTS: usize = 8;
     for (pattern, stop) in pairs(&(0..1_u32 << SLOTS).collect::<Vec<_>>(), &[0, 1, 2, 3]) {
         let setting = mixed(SLOTS, stop);
@@ -143,7 +143,8 @@ fn rooms(visit: Visit) {
 fn faults(visit: Visit) {
     let spoilt = [Slot::Live(good()), Slot::Spoilt(4), second()];
     let banks = [bank(&two()), bank(&spoilt), [bank(&spoilt), vec![0]].concat(), bank(&[Slot::Free; 3])];
-    let lent = pairs(&[(29, 0), (30, 0), (31, 0), (31, 1), (31, 2), (32, 0)], &[69, 70, 71]);
+    let policies = [(29, 0), (30, 0), (31, 0), (31, 1), (31, 2), (32, 0), (34, 0), (35, 1), (35, 2), (36, 0)];
+    let lent = pairs(&policies, &[69, 70, 71]);
     for (((policy, rounding), request), bank) in pairs(&lent, &[0, 1, 2, 3]) {
         for ((room, list_room), (risk, id)) in pairs(&both_rooms(), &pairs(&[1_000, 9_000, 10_001], &[0, 2, 3])) {
             let mut setting = over(vec![]);
@@ -162,7 +163,7 @@ fn both_rooms() -> Vec<(Room, Room)> {
 }
 
 /// Banks in which several are near each other, with gaps.
-fn contests(visit: Visit) {
+pub fn contests(visit: Visit) {
     let mut r = Random::new(0x9a75);
     for (records, times) in [(1, 40), (2, 40), (5, 100), (22, 60), (900, 6)] {
         for _ in 0..times {

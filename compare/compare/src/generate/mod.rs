@@ -2,8 +2,10 @@
 //! edge of their range (`edges`) or to a limit that decides something (`aimed`). Explanations, catalogues, searches, forms, what is
 //! printed and the reading of a record have spaces and random cases of their own (`lists`, `catalogues`, `searches`, `forms`, `printed`,
 //! `places`), and so have banks with free slots (`live`) and what changes them (`edits`). Policies that round once have spaces of their own too
-//! (`roundings`); and each random set is drawn twice, once with policies that all round apart and once with policies of both kinds.
+//! (`roundings`), and so have those with an allowance (`allowances`); and each random set is drawn three times, with policies that all round apart,
+//! with policies of both kinds, and with an allowance.
 pub mod aimed;
+pub mod allowances;
 pub mod base;
 pub mod catalogues;
 pub mod court;
@@ -66,7 +68,7 @@ impl Draws {
         let apart = (decisions * self.share).div_ceil(100);
         match policies {
             Policies::Apart => apart,
-            Policies::Both => apart.div_ceil(2),
+            Policies::Both | Policies::Allowing => apart.div_ceil(2),
         }
     }
 }
@@ -79,17 +81,19 @@ pub struct Draw {
     pub policies: Policies,
 }
 
-/// How the policies round that are drawn.
+/// What the policies name that are drawn.
 #[derive(Clone, Copy, PartialEq, Eq)]
 pub enum Policies {
-    /// Apart. Nothing is drawn to say so: the cases are those from before a policy could say anything else, number by number.
+    /// Nothing: they round apart. Nothing is drawn to say so: the cases are those from before a policy could say anything else, number by number.
     Apart,
-    /// Apart or once, and tokens and prices moved to where that shows.
+    /// That they round apart or once, and tokens and prices moved to where that shows.
     Both,
+    /// Mostly an allowance, with latencies where that shows; and some that they round once.
+    Allowing,
 }
 
 impl Policies {
-    pub const EACH: [Policies; 2] = [Policies::Apart, Policies::Both];
+    pub const EACH: [Policies; 3] = [Policies::Apart, Policies::Both, Policies::Allowing];
 }
 
 impl fmt::Display for Policies {
@@ -97,17 +101,19 @@ impl fmt::Display for Policies {
         f.write_str(match self {
             Policies::Apart => "rounding apart",
             Policies::Both => "rounding either way",
+            Policies::Allowing => "with an allowance",
         })
     }
 }
 
 impl Draw {
-    /// The draw of a number. Where policies are of both kinds it is one beside, so that no case that rounds apart is asked twice.
+    /// The draw of a number. Where policies name more it is one beside, so that no case that rounds apart is asked twice.
     pub fn of(policies: Policies, seed: u64, number: u64) -> Self {
         let draw = Draw { seed, number, policies };
         match policies {
             Policies::Apart => draw,
             Policies::Both => draw.beside(0xb074),
+            Policies::Allowing => draw.beside(0xa110),
         }
     }
 
@@ -120,18 +126,22 @@ impl Draw {
         Random::for_case(self.seed.wrapping_add(salt), self.number)
     }
 
-    /// Has the setting's policy round either way. It draws from a source of its own.
-    fn round(self, setting: &mut Setting) {
-        if self.policies == Policies::Both {
-            roundings::round(&mut self.source(0x4024d), setting);
+    /// Has the setting's policy name what such policies do. It draws from a source of its own.
+    fn name(self, setting: &mut Setting) {
+        match self.policies {
+            Policies::Apart => {}
+            Policies::Both => roundings::round(&mut self.source(0x4024d), setting),
+            Policies::Allowing => allowances::allow(&mut self.source(0xa1103), setting),
         }
     }
 
     /// The setting as a case, its policy lent in as many bytes as say it, or in more.
     fn case(self, setting: &Setting, id: u32) -> Case {
         let mut case = setting.case(id);
-        if self.policies == Policies::Both {
-            roundings::lend(&mut self.source(0x4024e), &mut case.policy);
+        match self.policies {
+            Policies::Apart => {}
+            Policies::Both => roundings::lend(&mut self.source(0x4024e), &mut case.policy),
+            Policies::Allowing => allowances::lend(&mut self.source(0xa1104), &mut case.policy),
         }
         case
     }
@@ -189,7 +199,7 @@ const fn long(name: &'static str, asked: Asked, each: fn(Visit)) -> Space {
     Space { name, asked, long: true, each }
 }
 
-pub const SPACES: [Space; 27] = [
+pub const SPACES: [Space; 36] = [
     space("decisions", Asked::Every, spaces::each),
     space("banks of every size", Asked::Every, large::each),
     space("lists", LISTS, lists::each),
@@ -205,7 +215,13 @@ pub const SPACES: [Space; 27] = [
     space("searches, rounding once", SEARCHES, roundings::searches),
     space("forms, rounding once", FORMS, forms::each_once),
     space("printed, rounding once", PRINTED, roundings::printed),
+    space("allowances", COSTS, allowances::each),
+    space("policies that say an allowance", Asked::Every, allowances::policies),
+    space("searches, with an allowance", SEARCHES, allowances::searches),
+    space("forms, with an allowance", FORMS, forms::each_allowing),
+    space("printed, with an allowance", PRINTED, allowances::printed),
     space("live banks", LIVE, live::each),
+    space("live banks, with an allowance", LIVE, allowances::live),
     space("large live banks", LIVE_DECISIONS, live::largest),
     space("edits", EDITS, edits::each),
     space("edits of large banks", EDITS, edits::large),
@@ -216,6 +232,9 @@ pub const SPACES: [Space; 27] = [
     long("decisions, rounding once", DECISIONS, roundings::decisions),
     long("banks of every size, rounding once", Asked::Every, roundings::large),
     long("forms of every size, rounding once", FORMS, forms::sizes_once),
+    long("decisions, with an allowance", DECISIONS, allowances::decisions),
+    long("banks of every size, with an allowance", Asked::Every, allowances::large),
+    long("forms of every size, with an allowance", FORMS, forms::sizes_allowing),
     long("searches over large live banks", LIVE_SEARCHES, live::largest_searches),
 ];
 
@@ -307,7 +326,7 @@ fn of_every_call(draw: Draw) -> Case {
 
 fn random_setting(draw: Draw, r: &mut Random, records: usize) -> Setting {
     let mut setting = base::setting(r, records);
-    draw.round(&mut setting);
+    draw.name(&mut setting);
     for _ in 0..r.pick(&[0, 1, 1, 1, 2, 2, 3]) {
         if r.one_in(3) {
             edges::change(r, &mut setting);

@@ -155,7 +155,7 @@ pub fn random(draw: Draw) -> Case {
 fn passing(draw: Draw, r: &mut Random, records: usize) -> Setting {
     let contested = !r.one_in(3);
     let mut setting = if contested { contest(r, records) } else { base::setting(r, records) };
-    draw.round(&mut setting);
+    draw.name(&mut setting);
     if contested {
         return setting;
     }

@@ -5,7 +5,7 @@ use super::random::Random;
 use super::spaces::pairs;
 use super::{large, printed, searches, spaces, Setting, Visit};
 use crate::case::{Case, Room};
-use crate::second::bytes::{LONG_POLICY_BYTES, POLICY_BYTES};
+use crate::second::bytes::{POLICY_BYTES, ROUNDED_POLICY_BYTES};
 use crate::second::rules::Rounding;
 use oracle::kernel::KernelModel;
 
@@ -32,7 +32,7 @@ pub fn lend(r: &mut Random, policy: &mut Vec<u8>) {
     if policy.len() == POLICY_BYTES && r.one_in(3) {
         policy.push(Rounding::Apart as u8);
     }
-    if policy.len() == LONG_POLICY_BYTES && r.one_in(32) {
+    if policy.len() == ROUNDED_POLICY_BYTES && r.one_in(32) {
         policy[POLICY_BYTES] = r.pick(&[2, 3, 4, 128, 255]);
     }
 }
@@ -263,7 +263,7 @@ pub fn policies(visit: Visit) {
         case.policy.iter_mut().skip(POLICY_BYTES).for_each(|at| *at = byte);
         case
     };
-    (0..=u8::MAX).for_each(|byte| visit(lent(LONG_POLICY_BYTES, byte)));
+    (0..=u8::MAX).for_each(|byte| visit(lent(ROUNDED_POLICY_BYTES, byte)));
     for (length, byte) in pairs(&[0, 1, 28, 29, 30, 31, 32, 33, 34, 35, 61, 62, 70], &[0, 1, 2, 255]) {
         for ((request, bank), room) in pairs(&pairs(&[69, 70, 71], &[93, 94]), &[Room::Exact, Room::ShortBy(1)]) {
             let mut case = Case { room, list_room: room, ..lent(length, byte) };

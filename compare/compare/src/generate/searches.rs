@@ -226,7 +226,7 @@ pub fn random(draw: Draw) -> Case {
     let mut r = draw.source(0x5ea2c4);
     let records = r.pick(&[1, 2, 2, 2, 3, 3, 3, 4, 5, 6, 8, 22]);
     let mut setting = if r.one_in(5) { base::setting(&mut r, records) } else { contest(&mut r, records) };
-    draw.round(&mut setting);
+    draw.name(&mut setting);
     for _ in 0..r.pick(&[0, 0, 1, 1, 2, 3]) {
         let at = r.place(records);
         match r.below(4) {

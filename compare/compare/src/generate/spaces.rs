@@ -225,7 +225,7 @@ pub fn richest(model: KernelModel) -> Setting {
 }
 
 /// The three terms at their edges.
-fn terms(visit: Visit) {
+pub fn terms(visit: Visit) {
     let bps = [0, 1, 10_000, 65_535];
     let delays = [(0, 0), (1, 1), (1 << 32, u32::MAX), (u64::MAX, u32::MAX), (u64::MAX, 1), (u64::MAX, 0)];
     for (value, (confidence, quality)) in pairs(&VALUES, &pairs(&bps, &bps)) {

@@ -14,6 +14,7 @@
 //! | as they say | after the call: the policy; the space, which is the list or the bank that is filled, or the bank that is changed; the buffer |
 //!
 //! Every byte of the space and of the buffer is `FILL` before the call, but for a bank that is changed in its place, by 9 and 27 to 30: it is a copy.
+mod allowances;
 mod batches;
 mod catalogues;
 mod decisions;
@@ -51,6 +52,7 @@ pub fn entries() -> Vec<Entry> {
     roundings::entries(&mut list);
     live::entries(&mut list);
     batches::entries(&mut list);
+    allowances::entries(&mut list);
     list
 }
 
@@ -62,7 +64,7 @@ fn add(list: &mut Vec<Entry>, call: usize, case: Case) {
 const MOST_BANK: usize = 8 * RECORD_BYTES + 1;
 pub const MOST_ROOM: usize = 1_024;
 /// The bytes of the longest list that it reads.
-pub const MOST_BYTES: usize = 589_824;
+pub const MOST_BYTES: usize = 786_432;
 
 /// What fills a space and a buffer before the call.
 const FILL: u8 = 165;

@@ -12,7 +12,7 @@ use crate::generate::example::{example, one_token_each_way, rows};
 use crate::generate::forms::{self, damaged, ONCE};
 use crate::generate::roundings::{duel, held_case, once};
 use crate::generate::{lists, printed, random_case, searches, small_size, Draw, Policies, Setting};
-use crate::second::bytes::{LONG_POLICY_BYTES, REQUEST_BYTES};
+use crate::second::bytes::{REQUEST_BYTES, ROUNDED_POLICY_BYTES};
 use crate::second::refusals;
 use crate::second::rules::Rounding::{Apart, Once};
 
@@ -44,7 +44,7 @@ fn random(list: &mut Vec<Entry>, call: usize, number: usize, case: fn(Draw) -> C
 
 fn says(case: &Case) -> bool {
     let sound = refusals::policy_and_request(&case.policy, &case.request).is_ok();
-    sound && case.policy.len() == LONG_POLICY_BYTES && case.request.len() == REQUEST_BYTES
+    sound && case.policy.len() == ROUNDED_POLICY_BYTES && case.request.len() == REQUEST_BYTES
 }
 
 /// The case with a policy that says in a byte that it rounds apart.

@@ -6,7 +6,9 @@ use oracle::kernel::{KernelInput, KernelModel};
 /// A policy's six numbers.
 pub const POLICY_BYTES: usize = 30;
 /// The same with a byte after them that says how it rounds.
-pub const LONG_POLICY_BYTES: usize = 31;
+pub const ROUNDED_POLICY_BYTES: usize = 31;
+/// The same with four bytes after that one, which say its allowance.
+pub const LONG_POLICY_BYTES: usize = 35;
 pub const REQUEST_BYTES: usize = 70;
 pub const RECORD_BYTES: usize = 47;
 pub const DECISION_BYTES: usize = 65;
@@ -18,7 +20,7 @@ pub const OFFSET_BYTES: usize = 8;
 /// The place of an id that is nowhere.
 pub const NOWHERE: u16 = u16::MAX;
 
-/// The policy's six numbers, the body of tag 1, and how it rounds. Its models stand beside it, in the bank.
+/// The policy's six numbers, the body of tag 1, how it rounds, and its allowance. Its models stand beside it, in the bank.
 #[derive(Clone, Copy, Debug, PartialEq, Eq)]
 pub struct Policy {
     pub policy_epoch: u64,
@@ -28,12 +30,14 @@ pub struct Policy {
     pub risk_penalty_multiplier_bps: u16,
     pub latency_penalty_microunits_per_ms: u64,
     pub rounding: Rounding,
+    /// 0 is none.
+    pub latency_allowance_ms: u32,
 }
 
 impl Policy {
     /// The same policy, were these the rules that it names.
     pub fn by(self, rules: Rules) -> Self {
-        Policy { rounding: rules.rounding, ..self }
+        Policy { rounding: rules.rounding, latency_allowance_ms: rules.allowance, ..self }
     }
 }
 
@@ -68,13 +72,13 @@ pub fn rounding_of(number: u8) -> Option<Rounding> {
     [Rounding::Apart, Rounding::Once].into_iter().find(|rounding| *rounding as u8 == number)
 }
 
-/// 30 bytes are a policy that rounds apart; of 31 the last says how it rounds.
+/// 30 bytes are a policy that rounds apart and has no allowance; a 31st says how it rounds, and four more the allowance.
 pub fn policy_of(bytes: &[u8]) -> Policy {
-    let (numbers, rounding) = bytes.split_at(POLICY_BYTES);
-    let rounding = match rounding {
-        [] => Some(Rounding::Apart),
-        [number] => rounding_of(*number),
-        _ => None,
+    let (numbers, rest) = bytes.split_at(POLICY_BYTES);
+    let (rounding, allowance) = match rest {
+        [] => (Some(Rounding::Apart), 0),
+        [number] => (rounding_of(*number), 0),
+        [number, allowance @ ..] => (rounding_of(*number), Fields(allowance).u32()),
     };
     let mut f = Fields(numbers);
     Policy {
@@ -85,19 +89,22 @@ pub fn policy_of(bytes: &[u8]) -> Policy {
         risk_penalty_multiplier_bps: f.u16(),
         latency_penalty_microunits_per_ms: f.u64(),
         rounding: rounding.expect("refused where there is none"),
+        latency_allowance_ms: allowance,
     }
 }
 
-/// As few bytes as say the policy: 30 where it rounds apart.
+/// As few bytes as say the policy: 30 where it rounds apart and has no allowance, 31 where it rounds once and has none.
 pub fn policy_bytes(p: &Policy) -> Vec<u8> {
     let mut bytes = long_policy_bytes(p);
-    if p.rounding == Rounding::Apart {
-        bytes.pop();
-    }
+    bytes.truncate(match (p.latency_allowance_ms, p.rounding) {
+        (0, Rounding::Apart) => POLICY_BYTES,
+        (0, Rounding::Once) => ROUNDED_POLICY_BYTES,
+        _ => LONG_POLICY_BYTES,
+    });
     bytes
 }
 
-/// The 31 bytes in which a policy is handed back.
+/// The 35 bytes in which a policy is handed back.
 pub fn long_policy_bytes(p: &Policy) -> Vec<u8> {
     [
         &p.policy_epoch.to_le_bytes()[..],
@@ -107,6 +114,7 @@ pub fn long_policy_bytes(p: &Policy) -> Vec<u8> {
         &p.risk_penalty_multiplier_bps.to_le_bytes(),
         &p.latency_penalty_microunits_per_ms.to_le_bytes(),
         &[p.rounding as u8],
+        &p.latency_allowance_ms.to_le_bytes(),
     ]
     .concat()
 }
@@ -257,11 +265,26 @@ mod tests {
     }
 
     #[test]
+    fn of_35_bytes_the_last_four_are_the_allowance() {
+        let read = |after: &[u8]| policy_of(&[&offsets(30), after].concat());
+        let told = |after: &[u8]| (read(after).rounding, read(after).latency_allowance_ms);
+        assert_eq!([&[][..], &[0], &[0, 0, 0, 0, 0]].map(told), [(Rounding::Apart, 0); 3]);
+        assert_eq!([&[1][..], &[1, 0, 0, 0, 0]].map(told), [(Rounding::Once, 0); 2]);
+        assert_eq!(told(&[0, 1, 2, 3, 4]), (Rounding::Apart, 0x0403_0201));
+        assert_eq!(told(&[1, 255, 255, 255, 255]), (Rounding::Once, u32::MAX));
+    }
+
+    #[test]
     fn what_was_read_is_written_as_the_same_bytes() {
         assert_eq!(policy_bytes(&policy_of(&offsets(30))), offsets(30));
-        let long = |rounding: u8| [offsets(30), vec![rounding]].concat();
-        assert_eq!([0, 1].map(|number| long_policy_bytes(&policy_of(&long(number)))), [long(0), long(1)]);
-        assert_eq!([0, 1].map(|number| policy_bytes(&policy_of(&long(number)))), [offsets(30), long(1)]);
+        let and = |after: &[u8]| [&offsets(30), after].concat();
+        let long = |after: &[u8]| long_policy_bytes(&policy_of(&and(after)));
+        assert_eq!([long(&[0]), long(&[1])], [and(&[0, 0, 0, 0, 0]), and(&[1, 0, 0, 0, 0])]);
+        assert_eq!([long(&[0, 9, 8, 7, 6]), long(&[1, 0, 0, 0, 1])], [and(&[0, 9, 8, 7, 6]), and(&[1, 0, 0, 0, 1])]);
+        let short = |after: &[u8]| policy_bytes(&policy_of(&and(after)));
+        assert_eq!([short(&[0]), short(&[1])], [offsets(30), and(&[1])]);
+        assert_eq!([short(&[0; 5]), short(&[1, 0, 0, 0, 0])], [offsets(30), and(&[1])]);
+        assert_eq!([short(&[0, 0, 1, 0, 0]), short(&[1, 1, 0, 0, 0])], [and(&[0, 0, 1, 0, 0]), and(&[1, 1, 0, 0, 0])]);
         assert_eq!(request_bytes(&request_of(&offsets(70))), offsets(70));
         assert_eq!(bank_bytes(&models_of(&offsets(94))), offsets(94));
     }

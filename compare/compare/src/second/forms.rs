@@ -1,7 +1,7 @@
 //! Document 01's stored form and request form, and the input of its program: fields of a one-byte tag, a two-byte length and a body; and the
-//! field by which document 02 lets a policy say that it rounds once.
+//! fields by which document 02 lets a policy say that it rounds once, and its allowance.
 use super::bytes::{policy_of, request_of};
-use super::bytes::{Policy, LONG_POLICY_BYTES, POLICY_BYTES, RECORD_BYTES, REQUEST_BYTES};
+use super::bytes::{Policy, LONG_POLICY_BYTES, POLICY_BYTES, RECORD_BYTES, REQUEST_BYTES, ROUNDED_POLICY_BYTES};
 use super::refusals::{self, Refusal, FIELD_LENGTH};
 use super::rules::{Rounding, Rules};
 use oracle::kernel::KernelInput;
@@ -11,11 +11,13 @@ pub const POLICY: u8 = 1;
 pub const MODELS: u8 = 2;
 pub const REQUEST: u8 = 3;
 pub const ROUNDING: u8 = 4;
+pub const ALLOWANCE: u8 = 5;
 
-/// The fields of each form, in their order. The one that says how the policy rounds is there where it rounds once.
-pub const STORED_FORM: &[u8] = &[POLICY, MODELS, ROUNDING];
+/// The fields of each form, in their order. The one that says how the policy rounds is there where it rounds once, the one after it where the policy
+/// has an allowance.
+pub const STORED_FORM: &[u8] = &[POLICY, MODELS, ROUNDING, ALLOWANCE];
 pub const REQUEST_FORM: &[u8] = &[REQUEST];
-pub const PROGRAM_INPUT: &[u8] = &[POLICY, MODELS, ROUNDING, REQUEST];
+pub const PROGRAM_INPUT: &[u8] = &[POLICY, MODELS, ROUNDING, ALLOWANCE, REQUEST];
 
 pub const TOO_MANY_TO_STORE: u8 = 18;
 pub const CUT: u8 = 20;
@@ -25,9 +27,10 @@ pub const WRONG_TAG: u8 = 21;
 pub const MOST_STORED: usize = 1_394;
 
 const HEADER: usize = 3;
-/// The bytes of a stored form beside its models and the field of a policy that rounds once, of that field, and of a request form.
+/// The bytes of a stored form beside its models and the fields that not every policy has, of the two of these, and of a request form.
 const STORED_BYTES: usize = 2 * HEADER + POLICY_BYTES;
 const ROUNDING_FIELD_BYTES: usize = HEADER + 1;
+const ALLOWANCE_FIELD_BYTES: usize = HEADER + 4;
 pub const REQUEST_FORM_BYTES: usize = HEADER + REQUEST_BYTES;
 /// What reading a stored form answers beside the models: the policy, and how many bytes of models there are.
 pub const READ_BYTES: usize = LONG_POLICY_BYTES + 8;
@@ -40,21 +43,32 @@ fn put_field(out: &mut Vec<u8>, tag: u8, body: &[u8]) {
 
 /// Whether the bytes of a policy, which may have any length, say that it rounds once.
 fn rounds_once(policy: &[u8]) -> bool {
-    policy.len() == LONG_POLICY_BYTES && policy[POLICY_BYTES] == Rounding::Once as u8
+    let says = [ROUNDED_POLICY_BYTES, LONG_POLICY_BYTES].contains(&policy.len());
+    says && policy[POLICY_BYTES] == Rounding::Once as u8
+}
+
+/// The allowance that they say, where it isn't none.
+fn allowance(policy: &[u8]) -> Option<&[u8]> {
+    let says = policy.len() == LONG_POLICY_BYTES;
+    says.then(|| &policy[ROUNDED_POLICY_BYTES..]).filter(|bytes| bytes.iter().any(|byte| *byte != 0))
 }
 
 /// How many bytes the stored form of a policy with its bank has.
 pub fn stored_bytes(policy: &[u8], bank: &[u8]) -> usize {
-    STORED_BYTES + bank.len() + if rounds_once(policy) { ROUNDING_FIELD_BYTES } else { 0 }
+    let rounding = if rounds_once(policy) { ROUNDING_FIELD_BYTES } else { 0 };
+    STORED_BYTES + bank.len() + rounding + allowance(policy).map_or(0, |_| ALLOWANCE_FIELD_BYTES)
 }
 
-/// A policy that rounds apart has no field that says so: each policy has one form.
+/// A policy that rounds apart has no field that says so, nor has one without an allowance: each policy has one form.
 pub fn stored_form(policy: &[u8], bank: &[u8]) -> Vec<u8> {
     let mut out = Vec::new();
     put_field(&mut out, POLICY, &policy[..POLICY_BYTES]);
     put_field(&mut out, MODELS, bank);
     if rounds_once(policy) {
         put_field(&mut out, ROUNDING, &[Rounding::Once as u8]);
+    }
+    if let Some(allowance) = allowance(policy) {
+        put_field(&mut out, ALLOWANCE, allowance);
     }
     out
 }
@@ -79,6 +93,7 @@ fn fits(tag: u8, length: usize) -> bool {
         POLICY => length == POLICY_BYTES,
         REQUEST => length == REQUEST_BYTES,
         ROUNDING => length == 1,
+        ALLOWANCE => length == 4,
         _ => length.is_multiple_of(RECORD_BYTES),
     }
 }
@@ -120,6 +135,18 @@ impl<'a> Left<'a> {
         }
     }
 
+    /// The allowance: a byte 5 begins the field that says one, and any other says that there is none. A body of 0 is 25.
+    fn allowance(&mut self) -> Result<u32, Refusal> {
+        if self.0.first() != Some(&ALLOWANCE) {
+            return Ok(0);
+        }
+        let body = self.field(ALLOWANCE)?;
+        match u32::from_le_bytes(body.try_into().expect("its length is tested")) {
+            0 => Err(Refusal::of(refusals::ZERO_ALLOWANCE)),
+            allowance => Ok(allowance),
+        }
+    }
+
     /// A byte after the last field is 21.
     fn end(self) -> Result<(), Refusal> {
         match self.0 {
@@ -133,7 +160,8 @@ impl<'a> Left<'a> {
 fn policy_and_bank<'a>(left: &mut Left<'a>) -> Result<(Policy, &'a [u8]), Refusal> {
     let numbers = policy_of(left.field(POLICY)?);
     let bank = left.field(MODELS)?;
-    Ok((numbers.by(Rules { rounding: left.rounding()? }), bank))
+    let rules = Rules { rounding: left.rounding()?, allowance: left.allowance()? };
+    Ok((numbers.by(rules), bank))
 }
 
 /// The policy and the models' bytes of a stored form.
@@ -162,7 +190,7 @@ pub struct Input<'a> {
 const TOO_MANY_FOR_THE_PROGRAM: u8 = 19;
 const MOST_IN_THE_PROGRAM: usize = 900;
 
-/// 20 to 23 over all fields, then 19.
+/// 20 to 23 and 25 over all fields, then 19.
 pub fn input_of(input: &[u8]) -> Result<Input<'_>, Refusal> {
     let mut left = Left(input);
     let (policy, bank) = policy_and_bank(&mut left)?;
@@ -210,7 +238,7 @@ mod tests {
         assert_eq!(number(&and(&rounding)), 0);
         assert_eq!(number(&and(&[4])), 20, "a byte 4 alone begins the field");
         assert_eq!(number(&and(&[4, 1])), 20);
-        assert_eq!([1, 2, 3, 5, 9].map(|byte| number(&and(&[byte]))), [21; 5], "any other is one after the end");
+        assert_eq!([1, 2, 3, 6, 9].map(|byte| number(&and(&[byte]))), [21; 5], "any other but 5 is one after the end");
         assert_eq!(number(&and(&[4, 1, 0])), 20, "a header without its body");
         assert_eq!(number(&and(&[4, 2, 0, 1])), 22, "another length before a cut body");
         assert_eq!(number(&and(&[4, 0, 0])), 22);
@@ -222,6 +250,58 @@ mod tests {
         let form = and(&[]);
         assert_eq!(number(&[&form[..33], &rounding, &form[33..]].concat()), 21, "before the models");
         assert_eq!(number(&[&[1, 31, 0][..], &[7; 30], &[1], &form[33..]].concat()), 22, "31 bytes under tag 1");
+    }
+
+    #[test]
+    fn each_fault_of_the_field_that_says_an_allowance_has_its_number() {
+        let (rounding, allowance) = ([4, 1, 0, 1], [5, 4, 0, 200, 0, 0, 0]);
+        assert_eq!(number(&and(&allowance)), 0);
+        assert_eq!([&[5][..], &[5, 4], &[5, 4, 0], &[5, 4, 0, 0, 0, 0]].map(|cut| number(&and(cut))), [20; 4]);
+        assert_eq!([0, 1, 3, 5, 30].map(|length| number(&and(&[5, length, 0, 0, 0]))), [22; 5], "22 before 20 and 25");
+        assert_eq!(number(&and(&[&[5, 4, 1][..], &[1; 260]].concat())), 22);
+        assert_eq!(number(&and(&[5, 4, 0, 0, 0, 0, 0])), 25);
+        assert_eq!(number(&and(&[5, 4, 0, 0, 0, 0, 0, 0])), 25, "a body of 0 before a byte after the end");
+        assert_eq!((3..7).map(|at| number(&and(&one_byte(at)))).collect::<Vec<_>>(), [0; 4], "any byte that isn't 0");
+        assert_eq!(number(&and(&[allowance, allowance].concat())), 21, "twice");
+        assert_eq!(number(&and(&[&rounding[..], &allowance].concat())), 0);
+        assert_eq!(number(&and(&[&allowance[..], &rounding].concat())), 21, "before the one that says how to round");
+        assert_eq!(number(&and(&[&[4, 1, 0, 2][..], &[5, 4, 0, 0, 0, 0, 0]].concat())), 23, "23 before 25");
+        assert_eq!(number(&and(&[&rounding[..], &[5, 4, 0, 0, 0, 0, 0]].concat())), 25);
+        let form = and(&[]);
+        assert_eq!(number(&[&form[..33], &allowance, &form[33..]].concat()), 21, "before the models");
+        assert_eq!(number(&[&[1, 35, 0][..], &[0; 35], &form[33..]].concat()), 22, "35 bytes under tag 1");
+    }
+
+    /// An allowance of which one byte alone is set.
+    fn one_byte(at: usize) -> [u8; 7] {
+        let mut field = [5, 4, 0, 0, 0, 0, 0];
+        field[at] = 128;
+        field
+    }
+
+    #[test]
+    fn the_programs_input_has_the_allowance_after_the_rounding() {
+        let number = |after: &[u8]| input_of(&and(after)).map_or_else(|refusal| refusal.number, |_| 0);
+        let (rounding, request) = ([4, 1, 0, 1], request_form(&[6; 70]));
+        let (allowance, none) = ([5, 4, 0, 200, 0, 0, 0], [5, 4, 0, 0, 0, 0, 0]);
+        assert_eq!(number(&[&allowance[..], &request].concat()), 0);
+        assert_eq!(number(&[&rounding[..], &allowance, &request].concat()), 0);
+        assert_eq!(number(&[&none[..], &request].concat()), 25);
+        assert_eq!(number(&none), 25, "judged whole before the next");
+        assert_eq!(number(&[&[5, 3, 0][..], &request].concat()), 22);
+        assert_eq!([&[5][..], &[5, 4], &[5, 4, 0], &allowance[..6]].map(number), [20; 4]);
+        assert_eq!(number(&allowance), 21, "no request after it");
+        assert_eq!(number(&[&allowance[..], &[9]].concat()), 20, "a cut header");
+        assert_eq!(number(&[&allowance[..], &rounding, &request].concat()), 21);
+        assert_eq!(number(&[&request[..], &allowance].concat()), 21);
+        let read = |after: &[u8]| {
+            let form = and(&[after, &request].concat());
+            input_of(&form).map(|input| (input.policy.rounding, input.policy.latency_allowance_ms)).ok()
+        };
+        assert_eq!(read(&[]), Some((Rounding::Apart, 0)));
+        assert_eq!(read(&allowance), Some((Rounding::Apart, 200)));
+        assert_eq!(read(&[&rounding[..], &allowance].concat()), Some((Rounding::Once, 200)));
+        assert_eq!(read(&[5, 4, 0, 1, 2, 3, 4]), Some((Rounding::Apart, 0x0403_0201)));
     }
 
     #[test]
@@ -248,8 +328,16 @@ mod tests {
         let (policy, bank) = ([3; 30], [5; 94]);
         assert_eq!(stored_of(&stored_form(&policy, &bank)), Ok((policy_of(&policy), &bank[..])));
         assert_eq!(request_in(&request_form(&[6; 70])), Ok(&[6; 70][..]));
-        for (rounding, bytes) in [(0, 130), (1, 134)] {
-            let policy = [&policy[..], &[rounding]].concat();
+        let after: [(&[u8], usize); 6] = [
+            (&[0], 130),
+            (&[1], 134),
+            (&[0, 0, 0, 0, 0], 130),
+            (&[1, 0, 0, 0, 0], 134),
+            (&[0, 0, 0, 0, 1], 137),
+            (&[1, 200, 0, 0, 0], 141),
+        ];
+        for (after, bytes) in after {
+            let policy = [&policy[..], after].concat();
             let form = stored_form(&policy, &bank);
             assert_eq!((form.len(), stored_bytes(&policy, &bank)), (bytes, bytes));
             assert_eq!(stored_of(&form), Ok((policy_of(&policy), &bank[..])));

@@ -1,5 +1,5 @@
-//! A second reading of document 01, and of document 02 where it has landed (a policy may round once, a bank may be edited), apart from the port and
-//! from the Rust: of the Rust it has the types of a record and of a request, and nothing else.
+//! A second reading of document 01, and of document 02 where it has landed (a policy may round once and may have an allowance, a bank may be edited),
+//! apart from the port and from the Rust: of the Rust it has the types of a record and of a request, and nothing else.
 //!
 //! It decides, explains and searches by itself (`gates`, `price`, `deciding`, `search`), by the `rules` that a policy names, which may be other
 //! than the Rust's, over any list of records with their places: all of a bank's, or its live ones (`slots`), which `edits` change. What the Rust

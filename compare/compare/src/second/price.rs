@@ -1,4 +1,5 @@
-//! Document 01's numbers for one record: its cost, also as document 02 has it, the terms and the utility; and a price that is scaled.
+//! Document 01's numbers for one record: its cost, the terms and the utility, the cost and the latency term also as document 02 has them; and a price
+//! that is scaled.
 use super::bytes::Policy;
 use super::rules::Rounding;
 use oracle::kernel::{KernelInput, KernelModel};
@@ -50,9 +51,19 @@ pub fn terms(p: &Policy, q: &KernelInput, m: &KernelModel, cost: u64) -> Terms {
     let value = u128::try_from(q.business_value_microunits).unwrap_or(0);
     let quality = value * u128::from(q.confidence_bps) * u128::from(m.quality_bps) / TWO_SHARES;
     let risk = value * u128::from(q.risk_bps) * u128::from(p.risk_penalty_multiplier_bps) / TWO_SHARES;
-    let latency = u128::from(m.p95_latency_ms) * u128::from(p.latency_penalty_microunits_per_ms);
+    let latency = charged(p, m) * u128::from(p.latency_penalty_microunits_per_ms);
     let utility = less(quality, risk + u128::from(cost) + latency);
     Terms { quality, risk, cost, latency, utility }
+}
+
+/// The milliseconds above the allowance, 0 if none.
+fn charged(p: &Policy, m: &KernelModel) -> u128 {
+    let (latency, allowance) = (u128::from(m.p95_latency_ms), u128::from(p.latency_allowance_ms));
+    if latency > allowance {
+        latency - allowance
+    } else {
+        0
+    }
 }
 
 /// What is left, held within 64 bits with a sign.
@@ -80,6 +91,22 @@ mod tests {
         let worth = setting.models.iter().zip([1_800, 300]);
         let worth = worth.map(|(model, cost)| terms(&setting.policy, &setting.request, model, cost).utility);
         assert_eq!((costs.collect::<Vec<_>>(), worth.collect::<Vec<_>>()), (vec![1_800, 300], vec![5_200, 6_200]));
+    }
+
+    /// 10 microunits a millisecond.
+    #[test]
+    fn the_milliseconds_above_the_allowance_are_charged() {
+        let mut setting = example();
+        let mut term = |allowance: u32, latency: u32| {
+            setting.policy.latency_allowance_ms = allowance;
+            setting.models[0].p95_latency_ms = latency;
+            terms(&setting.policy, &setting.request, &setting.models[0], 0).latency
+        };
+        assert_eq!([199, 200, 201].map(|latency| term(200, latency)), [0, 0, 10]);
+        assert_eq!([0, 1, 200].map(|latency| term(0, latency)), [0, 10, 2_000]);
+        assert_eq!([0, u32::MAX - 1, u32::MAX].map(|latency| term(u32::MAX, latency)), [0; 3]);
+        assert_eq!(term(u32::MAX - 1, u32::MAX), 10);
+        assert_eq!(term(1, u32::MAX), 10 * (u128::from(u32::MAX) - 1));
     }
 
     #[test]

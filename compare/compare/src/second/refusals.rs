@@ -1,5 +1,5 @@
 //! Document 01's refusal numbers, the tests behind them, and the word in which the library hands one back.
-use super::bytes::{rounding_of, LONG_POLICY_BYTES, POLICY_BYTES, RECORD_BYTES, REQUEST_BYTES};
+use super::bytes::{rounding_of, LONG_POLICY_BYTES, POLICY_BYTES, RECORD_BYTES, REQUEST_BYTES, ROUNDED_POLICY_BYTES};
 use super::slots::{is_spoilt, Listing};
 use oracle::kernel::KernelInput;
 
@@ -13,6 +13,7 @@ pub const NO_UTILITY: u8 = 7;
 pub const BEYOND: u8 = 8;
 pub const FIELD_LENGTH: u8 = 22;
 pub const ROUNDING: u8 = 23;
+pub const ZERO_ALLOWANCE: u8 = 25;
 pub const SLOT_NOT_CLEAR: u8 = 34;
 
 pub const MOST_RECORDS: usize = 65_535;
@@ -62,12 +63,12 @@ pub fn record_length(record: &[u8]) -> Passed {
     unless(record.len() != RECORD_BYTES, FIELD_LENGTH)
 }
 
-/// 22, for a policy that is neither 30 bytes nor 31.
+/// 22, for a policy that is neither 30 bytes nor 31 nor 35.
 fn policy_length(policy: &[u8]) -> Passed {
-    unless(![POLICY_BYTES, LONG_POLICY_BYTES].contains(&policy.len()), FIELD_LENGTH)
+    unless(![POLICY_BYTES, ROUNDED_POLICY_BYTES, LONG_POLICY_BYTES].contains(&policy.len()), FIELD_LENGTH)
 }
 
-/// 23, for a policy of 31 bytes whose last says no way of rounding.
+/// 23, for a policy whose 31st byte says no way of rounding. An allowance of 0 is none, and any other is sound: no bytes that are lent are 25.
 fn policy_rounding(policy: &[u8]) -> Passed {
     let told = policy.get(POLICY_BYTES);
     unless(told.is_some_and(|number| rounding_of(*number).is_none()), ROUNDING)
@@ -137,16 +138,22 @@ mod tests {
     }
 
     #[test]
-    fn a_policy_has_30_bytes_or_31_and_the_last_of_these_is_0_or_1() {
-        let of = |length: usize, last: u8| policy(&[vec![9; length - 1], vec![last]].concat()).err();
-        assert_eq!([29, 32, 33].map(|length| of(length, 2)), [Some(Refusal::of(22)); 3], "22 before 23");
-        assert_eq!([0, 1, 2, 255].map(|last| of(30, last)), [None; 4]);
+    fn a_policy_has_30_bytes_or_31_or_35_and_the_31st_is_0_or_1() {
+        let of = |length: usize, byte: u8| policy(&vec![byte; length]).err();
+        let wrong = [0, 29, 32, 33, 34, 36, 39, 70];
+        assert_eq!(wrong.map(|length| of(length, 2)), [Some(Refusal::of(22)); 8], "22 before 23");
+        assert_eq!([0, 1, 2, 255].map(|byte| of(30, byte)), [None; 4]);
         let unknown = Some(Refusal::of(23));
-        assert_eq!([0, 1, 2, 255].map(|last| of(31, last)), [None, None, unknown, unknown]);
+        for length in [31, 35] {
+            assert_eq!([0, 1, 2, 255].map(|byte| of(length, byte)), [None, None, unknown, unknown]);
+        }
+        assert_eq!(policy(&[vec![9; 30], vec![1, 0, 0, 0, 0]].concat()), Ok(()), "an allowance of 0 is none");
+        assert_eq!(policy(&[vec![9; 30], vec![0, 255, 255, 255, 255]].concat()), Ok(()));
         let both = |length: usize, request: usize| policy_and_request(&vec![2; length], &vec![0; request]).err();
         assert_eq!(
-            [both(31, 69), both(31, 70), both(32, 70), both(30, 70)].map(|it| it.map_or(0, |it| it.number)),
-            [22, 23, 22, 0]
+            [both(31, 69), both(31, 70), both(32, 70), both(30, 70), both(35, 69), both(35, 70), both(36, 70)]
+                .map(|it| it.map_or(0, |it| it.number)),
+            [22, 23, 22, 0, 22, 23, 22]
         );
     }
 

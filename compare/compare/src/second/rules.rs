@@ -14,14 +14,16 @@ pub enum Rounding {
 #[derive(Clone, Copy, Debug, PartialEq, Eq)]
 pub struct Rules {
     pub rounding: Rounding,
+    /// How many milliseconds of a latency are free of the penalty: none in the Rust.
+    pub allowance: u32,
 }
 
 impl Rules {
     /// The Rust's own. Whatever holds for a case, the second reading must agree with the Rust by these.
-    pub const RUST: Rules = Rules { rounding: Rounding::Apart };
+    pub const RUST: Rules = Rules { rounding: Rounding::Apart, allowance: 0 };
 
     /// By which the library owes what is decided under a policy: those that the policy names.
     pub fn of(policy: &Policy) -> Rules {
-        Rules { rounding: policy.rounding }
+        Rules { rounding: policy.rounding, allowance: policy.latency_allowance_ms }
     }
 }

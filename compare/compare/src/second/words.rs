@@ -179,6 +179,7 @@ fn fault(asked: u32, refusal: Refusal) -> Option<String> {
         21 => "A field of the input is missing, out of its order, or one too many.".into(),
         22 => "A field of the input has a length that its tag does not have.".into(),
         23 => "The input's rounding, under tag 4, is not 1.".into(),
+        25 => "The input's latency allowance, under tag 5, is 0.".into(),
         _ => return None,
     };
     Some(said)

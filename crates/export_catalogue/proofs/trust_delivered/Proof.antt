@@ -3,7 +3,7 @@ use Rattle.rules.proofs.Kit.{ℕ, List, _++_, _≡_, refl, sym, ap, _∙_, need
 use Rattle.rules.specs.{Refused.Faults, Refused.toldOutcome, Refused.firstFault, Refused.unless, Trust.trustOf, Trust.trustBank}
 use Rattle.rules.specs.{declared.refusal.Outcome.Outcome, declared.refusal.Outcome.the-variants.Refused, declared.refusal.Refusal.Refusal}
 use Rattle.rules.proofs.Faults.{append-refused, unless-refused, none-told}
-use Rattle.unpacking_policy.proofs.Policies.{policy-long}
+use Rattle.unpacking_policy.proofs.Policies.{policy-sized}
 use Rattle.export_checks.specs.Checks.{wordOf}
 use Rattle.export_checks.proofs.Handed.{both}
 use Rattle.export_catalogue.proofs.trust_delivered.Statement.{statement}
@@ -24,7 +24,7 @@ returns c =
     (kept _ _ _ _ (at .lent .given .1) tests)
 
 policy-of-requires : tie.Need-policy-of-requires
-policy-of-requires c κs = policy-long _ (none-told _ (c .enum-told .given .1) (c .before .before .policy-lent-outcome .ensures))
+policy-of-requires c κs = policy-sized _ (none-told _ (c .enum-told .given .1) (c .before .before .policy-lent-outcome .ensures))
 
 returns-2 : tie.Need-returns-2
 unfolding trustOf trustBank

@@ -2,7 +2,7 @@
 use Rattle.rules.proofs.Kit.{ap, _∙_, needs}
 use Rattle.rules.specs.{Refused.toldOutcome, Validate.validateOf}
 use Rattle.rules.proofs.Faults.{append-passed, append-refused, none-told}
-use Rattle.unpacking_policy.proofs.Policies.{policy-long}
+use Rattle.unpacking_policy.proofs.Policies.{policy-sized}
 use Rattle.export_checks.specs.Checks.{wordOf}
 use Rattle.export_catalogue.proofs.validate_delivered.Statement.{statement}
 use Rattle.export_catalogue.proofs.validate_delivered.Tie as tie
@@ -14,7 +14,7 @@ returns c =
     c .refusal-word .ensures ∙ ap wordOf (append-refused _ _ (at .lent .given .1) (at .before .before .policy-lent-outcome .ensures))
 
 policy-of-requires : tie.Need-policy-of-requires
-policy-of-requires c κs = policy-long _ (none-told _ (c .enum-told .given .1) (c .before .before .policy-lent-outcome .ensures))
+policy-of-requires c κs = policy-sized _ (none-told _ (c .enum-told .given .1) (c .before .before .policy-lent-outcome .ensures))
 
 returns-2 : tie.Need-returns-2
 unfolding validateOf

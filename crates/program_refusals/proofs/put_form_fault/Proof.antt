@@ -37,12 +37,21 @@ returns-5 c =
     (promised-as (written _ _ _ (w .0)) (ap formWords (sym (c .before .before .before .before .before .match .keys5))), omega (arith, w .1))
 
 returns-6 : tie.Need-returns-6
+unfolding formWords equal text
 returns-6 c =
+    let w = c .before .before .put-sentence6 .ensures in
+    (promised-as (written _ _ _ (w .0)) (ap formWords (sym (c .before .before .before .before .before .match .keys6))), omega (arith, w .1))
+
+returns-7 : tie.Need-returns-7
+returns-7 c =
     let n = c .match .rest in
-    let s = c .before .before .before .before in
-    (promised-as (written-none _ _ (omega (arith, s .pre))) (no-form (n .0 .0 .0 .0 .1) (n .0 .0 .0 .1) (n .0 .0 .1) (n .0 .1) (n .1)), omega arith)
+    let s = c .before .before .before .before .before in (
+      promised-as (written-none _ _ (omega (arith, s .pre)))
+          (no-form (n .0 .0 .0 .0 .0 .1) (n .0 .0 .0 .0 .1) (n .0 .0 .0 .1) (n .0 .0 .1) (n .0 .1) (n .1)),
+      omega arith,
+    )
 
 pub put-form-fault-spec : {M : Type 1} → statement M
 put-form-fault-spec = tie.close (tie.spec (λ c. search needs) (λ c κs. search needs) (λ c. search needs) (λ c κs. search needs) (λ c κs. search needs)
-    (λ c κs. search needs) (λ c. search needs) (λ c κs. search needs) (λ c. search needs) returns (λ c. search needs) returns-2 (λ c. search needs)
-    returns-3 (λ c. search needs) returns-4 (λ c. search needs) returns-5 returns-6)
+    (λ c κs. search needs) (λ c. search needs) (λ c κs. search needs) (λ c κs. search needs) (λ c. search needs) returns (λ c. search needs) returns-2
+    (λ c. search needs) returns-3 (λ c. search needs) returns-4 (λ c. search needs) returns-5 (λ c. search needs) returns-6 returns-7)

@@ -50,11 +50,23 @@ returns-6 : tie.Need-returns-6
 unfolding fits
 returns-6 c =
     rw (
-      equal-no _ _ _ _ (c .before .before .before .if1 .left),
-      equal-no _ _ _ _ (c .before .before .if2 .left),
-      equal-no _ _ _ _ (c .before .if4 .left),
-      equal-no _ _ _ _ (c .if5 .left),
+      equal-no _ _ _ _ (c .before .before .before .before .if1 .left),
+      equal-no _ _ _ _ (c .before .before .before .if2 .left),
+      equal-no _ _ _ _ (c .before .before .if4 .left),
+      equal-no _ _ _ _ (c .before .if5 .left),
+      equal-yes _ _ _ _ (c .if6 .taken),
+    )
+
+returns-7 : tie.Need-returns-7
+unfolding fits
+returns-7 c =
+    rw (
+      equal-no _ _ _ _ (c .before .before .before .before .if1 .left),
+      equal-no _ _ _ _ (c .before .before .before .if2 .left),
+      equal-no _ _ _ _ (c .before .before .if4 .left),
+      equal-no _ _ _ _ (c .before .if5 .left),
+      equal-no _ _ _ _ (c .if6 .left),
     )
 
 pub fits-spec : {M : Type 1} → statement M
-fits-spec = tie.close (tie.spec returns returns-2 returns-3 returns-4 returns-5 returns-6)
+fits-spec = tie.close (tie.spec returns returns-2 returns-3 returns-4 returns-5 returns-6 returns-7)

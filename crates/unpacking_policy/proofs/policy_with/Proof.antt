@@ -20,6 +20,7 @@ returns c =
       «risk_penalty_multiplier_bps» = c1 .u16-at3 .ensures i;
       «latency_penalty_microunits_per_ms» = c .u64-at3 .ensures i;
       rounding = c5 .before .before .args .rounding;
+      «latency_allowance_ms» = c5 .before .before .args .allowance;
     }
 
 pub policy-with-spec : {M : Type 1} → statement M

@@ -4,10 +4,10 @@ use Rattle.cases.proofs.forms.every_form.Statement.{statement}
 use Rattle.cases.proofs.forms.every_form.Tie as tie
 
 abbrev Inv-loop : tie.InvT-loop
-Inv-loop tally₀ group₀ tally group = group ≤ 16
+Inv-loop tally₀ group₀ tally group = group ≤ 22
 
 abbrev μ-loop : tie.MeasureT-loop
-μ-loop tally₀ group₀ tally group = 16 - group
+μ-loop tally₀ group₀ tally group = 22 - group
 
 loop-holds : tie.Need-loop-holds Inv-loop μ-loop
 loop-holds c = search needs

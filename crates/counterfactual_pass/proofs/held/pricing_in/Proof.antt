@@ -4,9 +4,9 @@ use Rattle.counterfactual_pass.proofs.held.pricing_in.Statement.{statem
 use Rattle.counterfactual_pass.proofs.held.pricing_in.Tie as tie
 
 returns : tie.Need-returns
-returns c = rw (c .before .before .before .before .rounding-held .ensures)
+returns c = rw (c .before .before .before .before .before .rounding-held .ensures)
 
 pub pricing-in-spec : {M : Type 1} → statement M
 pricing-in-spec =
     tie.close (tie.spec (λ c. search needs) (λ c. search needs) (λ c κs. search needs) (λ c. search needs) (λ c. search needs) (λ c. search needs)
-    (λ c. search needs) (λ c. search needs) returns)
+    (λ c. search needs) (λ c. search needs) (λ c. search needs) (λ c. search needs) returns)

@@ -3,7 +3,7 @@ use Rattle.rules.proofs.Kit.{refl, needs}
 use Rattle.rules.specs.declared.refusal.Outcome.the-variants.{Refused}
 use Rattle.rules.specs.Stored.{writeStoredOf, writeStoredBuffer}
 use Rattle.rules.proofs.Faults.{append-refused, none-told}
-use Rattle.unpacking_policy.proofs.Policies.{policy-long}
+use Rattle.unpacking_policy.proofs.Policies.{policy-sized}
 use Rattle.export_checks.proofs.Handed.{tests-refused}
 use Rattle.export_forms.proofs.{Answering.written-so, forms.stored_form_delivered.Statement.statement}
 use Rattle.export_forms.proofs.forms.stored_form_delivered.Tie as tie
@@ -15,7 +15,7 @@ returns c =
     tests-refused _ _ _ _ {o = Refused _} refl tests (c .refusal-word .ensures)
 
 policy-of-requires : tie.Need-policy-of-requires
-policy-of-requires c κs = policy-long _ (none-told _ (c .enum-told .given .1) (c .before .before .policy-lent-outcome .ensures))
+policy-of-requires c κs = policy-sized _ (none-told _ (c .enum-told .given .1) (c .before .before .policy-lent-outcome .ensures))
 
 returns-2 : tie.Need-returns-2
 unfolding writeStoredOf writeStoredBuffer

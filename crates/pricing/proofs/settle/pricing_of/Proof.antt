@@ -18,6 +18,7 @@ returns c =
       «risk_penalty» = (c .share .ensures ∙ ap (λ v. wideOf (shareOf v (s .input .«risk_bps») (s .policy .«risk_penalty_multiplier_bps»))) g) i;
       «latency_pen_per_ms» = s .policy .«latency_penalty_microunits_per_ms»;
       rounding = s .policy .rounding;
+      «latency_allowance_ms» = s .policy .«latency_allowance_ms»;
     }
 
 pub pricing-of-spec : {M : Type 1} → statement M

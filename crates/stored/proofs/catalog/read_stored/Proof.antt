@@ -1,9 +1,9 @@
 -- `stored::catalog::read_stored` meets its contract. Assumes nothing.
-use Rattle.rules.proofs.Kit.{ℕ, _≡_, refl, ap, _∙_, List, arith, needs, now, length}
+use Rattle.rules.proofs.Kit.{ℕ, _≡_, refl, ap, _∙_, List, [], arith, needs, now, length}
 use Rattle.rules.proofs.Faults.{none-told}
-use Rattle.rules.specs.{Records.policyWith, Stored.bodyOf, Stored.storedBank, Stored.readStoredOf, Stored.readStoredBuffer}
-use Rattle.stored_layout.proofs.{Buffers.stays, Lengths.policy-length}
-use Rattle.stored.proofs.{Reading.CatalogFields, Reading.catalog-fields, Reading.reading-refused, Reading.reading-short, Reading.reading-none}
+use Rattle.rules.specs.Stored.{bodyOf, storedBank, readStoredOf, readStoredBuffer}
+use Rattle.stored_layout.proofs.{Buffers.stays, Openings.Opened, Openings.opening}
+use Rattle.stored.proofs.{Reading.catalog-fields, Reading.reading-refused, Reading.reading-short, Reading.reading-none}
 use Rattle.stored.proofs.{Reading.stored-read, catalog.read_stored.Statement.statement}
 use Rattle.stored.proofs.catalog.read_stored.Tie as tie
 
@@ -16,7 +16,7 @@ abbrev form₀ : tie.After-enum-told → List ℕ
 form₀ c = now (c .before .before .before .before .before .before .args .form)
 
 -- the form passes
-fields : (c : tie.After-enum-told) → CatalogFields (form₀ c)
+fields : (c : tie.After-enum-told) → Opened [] (form₀ c)
 fields c = catalog-fields _ (none-told _ (c .enum-told .given .1) (c .before .before .lay-out .ensures))
 
 front-body-requires : tie.Need-front-body-requires
@@ -34,29 +34,21 @@ returns-2 c =
     stays _ _ _ _ refl
     (reading-short _ _ (e .before .before .lay-out .ensures) (e .enum-told .given .1) (omega (arith, ap length (models f), c .if1 .taken)))
 
-rounding-in-requires : tie.Need-rounding-in-requires
-rounding-in-requires c κs =
-    let e = c .before .before .before .before .before .before .before in
-    (fields e .policy .whole, fields e .bank .whole)
-
-policy-with-requires : tie.Need-policy-with-requires
-policy-with-requires c κs =
-    let e = c .before .before .before .before .before .before .before .before .before in
-    rw (c .front-body2 .ensures) (omega (arith, policy-length (form₀ e) (fields e .policy)))
+policy-in-requires : tie.Need-policy-in-requires
+policy-in-requires c κs = opening _ _ (fields (c .before .before .before .before .before .before .before))
 
 returns-3 : tie.Need-returns-3
 returns-3 c =
-    let r = c .before .before in
-    let f = r .before .before .before .before .before .before in
+    let put = c .before .before .before in
+    let long = put .before .before in
+    let f = long .before in
     let e = f .before .before in
-    let long = r .before .before .before .before .before .if1 .left in
     stored-read (form₀ e) _
-    (reading-none _ _ (e .before .before .lay-out .ensures) (e .enum-told .given .1) (omega (arith, ap length (models f), long)))
-    (c .policy-with .ensures ∙ (λ i. policyWith (r .rounding-in .ensures i) (c .before .front-body2 .ensures i)))
+    (reading-none _ _ (e .before .before .lay-out .ensures) (e .enum-told .given .1) (omega (arith, ap length (models f), long .if1 .left)))
+    (c .policy-in .ensures)
     (models f)
-    (r .before .before .before .put-bytes .ensures)
+    (put .put-bytes .ensures)
 
 pub read-stored-spec : {M : Type 1} → statement M
 read-stored-spec = tie.close (tie.spec (λ c. search needs) (λ c κs. search needs) (λ c. search needs) returns (λ c. search needs)
-    (λ c κs. fields c .policy .whole) front-body-requires returns-2 (λ c κs. search needs) rounding-in-requires
-    (λ c κs. fields (c .before .before .before .before .before .before .before .before) .policy .whole) policy-with-requires (λ c. search needs) returns-3)
+    (λ c κs. fields c .policy .whole) front-body-requires returns-2 (λ c κs. search needs) policy-in-requires (λ c. search needs) returns-3)
