@@ -1,5 +1,7 @@
 // The question from the desk. `ask ID` reads what the unit's program reads and prints the decision, the levers that would make the model
 // with that id win, and the passes; `ask ID words` says the same in plain English.
+#![tactic(auto)]
+
 ghost use Rattle.std.specs.Prelude.{◌≡◌, ◌≤◌, length, take};
 ghost use Rattle.io.specs.Counts.{IsPrefixLen};
 ghost use Rattle.program_deliver.specs.Sizes.{read_bytes, words_bytes};

@@ -1,5 +1,7 @@
 // The records of a bank, read at their places; passed on, the models, requests and policies that bytes say. What is passed on here asks nothing
 // of its caller; `unchecked` is for other crates.
+#![tactic(auto)]
+
 ghost use Rattle.std.specs.Prelude.{◌≡◌, ◌+◌, ◌≤◌, length, take, drop};
 ghost use Rattle.rules.specs.Refused.{told_outcome};
 ghost use Rattle.rules.specs.Listing.{reading_of, record_of, record_start};

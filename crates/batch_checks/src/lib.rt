@@ -1,4 +1,6 @@
 // For `batch`: how it reads a bank, what it refuses (the bank, the room of the row, then the requests), and a decision over what is read.
+#![tactic(auto)]
+
 ghost use Rattle.std.specs.Prelude.{◌≡◌, ◌++◌, length};
 ghost use Rattle.rules.specs.Records.{records_in};
 ghost use Rattle.rules.specs.Refused.{bank_faults, room_faults, first_fault, or_else, told_outcome, unless};
@@ -16,7 +18,7 @@ use rules::limits::RECORD_BYTES;
 use rules::{KernelDecision, KernelInput, Outcome, PolicySnapshot, Refusal};
 
 // What refuses a bank, and how many of its records are read; 0 where it is refused.
-#[derive(Drop)]
+#[derive(Clone, Copy)]
 pub struct BankRead {
     pub outcome: Outcome,
     pub many: u16,

@@ -31,7 +31,7 @@ pub(crate) fn put_part(out: &mut [u8], at: usize, start: usize, end: usize) -> u
 }
 
 // What stands in a bank.
-#[derive(Drop)]
+#[derive(Clone, Copy)]
 pub(crate) enum Models {
     // The example's two, then others that are switched off.
     First,

@@ -6,7 +6,7 @@ use crate::banks::put_part;
 use crate::example::{AFTER_BANK, BANK, END};
 
 // Where a reader's bytes end, and the number that it owes: 0 for the example's own answer.
-#[derive(Drop)]
+#[derive(Clone, Copy)]
 pub(crate) struct Case {
     pub end: usize,
     pub number: u8,

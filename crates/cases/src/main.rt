@@ -1,6 +1,8 @@
 // Inputs of `unit` and `ask`, stored forms, request forms and banks that are cut, changed, too long or wrong in several ways at once, each with
 // the text or the answer that the documents give it (the desk's sentences are our own). Prints how many there are and how many differ, and which
 // one differs first. Nothing that is owed here is worked out by the calls that are tried.
+#![tactic(auto)]
+
 mod allowed;
 mod answers;
 mod banks;

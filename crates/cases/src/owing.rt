@@ -17,7 +17,7 @@ pub(crate) const READERS: usize = 4;
 pub(crate) const STORED: usize = 3;
 
 // Where a reader's bytes end, the number that it owes, and where that is 0 how the policy rounds, 0 apart and 1 once, and its allowance.
-#[derive(Drop)]
+#[derive(Clone, Copy)]
 pub(crate) struct Owed {
     pub end: usize,
     pub number: u8,

@@ -3,7 +3,7 @@ use libc::STDOUT_FILENO;
 use std::num::wrapping_add_u64;
 
 // What one number of a group is.
-#[derive(Drop)]
+#[derive(Clone, Copy)]
 pub(crate) enum Seen {
     Same,
     Differs,
@@ -12,7 +12,7 @@ pub(crate) enum Seen {
 }
 
 // How many cases there are, how many differ, and the group and number of the first that does.
-#[derive(Drop)]
+#[derive(Clone, Copy)]
 pub(crate) struct Tally {
     pub cases: u64,
     pub different: u64,

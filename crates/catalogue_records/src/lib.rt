@@ -1,4 +1,6 @@
 // For other crates: what refuses the records of a bank, each by itself and by the ids before it. `catalogue` has the calls that users make.
+#![tactic(auto)]
+
 mod ids;
 mod records;
 

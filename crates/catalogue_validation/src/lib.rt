@@ -1,5 +1,7 @@
 // For other crates: what a policy and its catalogue must keep to before they serve: 10, 11, the records, 15. Users have the call from `catalogue`,
 // which passes it on.
+#![tactic(auto)]
+
 ghost use Rattle.std.specs.Prelude.{◌≡◌};
 ghost use Rattle.rules.specs.Records.{listed_of};
 ghost use Rattle.rules.specs.Refused.{told_outcome, first_fault};

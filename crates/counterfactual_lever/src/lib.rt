@@ -1,4 +1,6 @@
 // For other crates: the levers by their numbers, and a model with one of them moved. A lever's values must fit its field.
+#![tactic(auto)]
+
 ghost use Rattle.std.specs.Prelude.{◌≡◌, ◌≤◌};
 ghost use Rattle.rules.specs.Levers.{lever_at};
 ghost use Rattle.rules.specs.Price.{scaled_price};

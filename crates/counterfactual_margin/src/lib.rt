@@ -1,5 +1,7 @@
 // The margin, of the Rust's counterfactual.rs: for the model that was selected, how far each of its levers can move before it isn't. For other
 // crates: users have the call from `counterfactual`, which passes it on.
+#![tactic(auto)]
+
 ghost use Rattle.std.specs.Prelude.{◌≡◌, []};
 ghost use Rattle.rules.specs.Refused.{bank_faults};
 ghost use Rattle.rules.specs.Numbers.{told_boundaries};

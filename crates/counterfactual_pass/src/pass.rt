@@ -18,7 +18,7 @@ use rules::{KernelDecision, KernelInput, KernelModel, PolicySnapshot, Prescribed
 use view::decide_with_model;
 
 // Policy and request, the model that is varied with its id and its place in the bank, and the best of the other records.
-#[derive(Drop)]
+#[derive(Clone, Copy)]
 pub struct Asked {
     pub policy: PolicySnapshot,
     pub input: KernelInput,

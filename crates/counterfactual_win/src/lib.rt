@@ -1,5 +1,7 @@
 // What would win, of the Rust's counterfactual.rs: for a model that wasn't selected, the smallest change of one lever after which it is. For
 // other crates: users have the call from `counterfactual`, which passes it on.
+#![tactic(auto)]
+
 ghost use Rattle.std.specs.Prelude.{◌≡◌, []};
 ghost use Rattle.rules.specs.Refused.{bank_faults, answered};
 ghost use Rattle.rules.specs.Listing.{first_listed, place_of};

@@ -1,5 +1,7 @@
 // What follows from the rules, for a reader: definitions are in specs/, theorems in proofs/. The functions do nothing: they let a theorem
 // speak of every slice that can be lent.
+#![tactic(auto)]
+
 ghost use Rattle.std.specs.Prelude.{◌≤◌};
 ghost use Rattle.rules.specs.Win.{what_would_win_of};
 ghost use Rattle.rules.specs.Margin.{decision_margin_of};

@@ -1,4 +1,6 @@
 // For other crates: numbers that bytes say, the lowest byte first, read at a position of a slice, which must leave room.
+#![tactic(auto)]
+
 ghost use Rattle.std.specs.Prelude.{◌≡◌, ◌+◌, ◌≤◌, [], ◌∷◌, length};
 ghost use Rattle.rules.specs.Bytes.{number, number_at};
 

@@ -1,4 +1,6 @@
 // For other crates: numbers written into bytes, the lowest byte first, at a position of a slice, which must leave room.
+#![tactic(auto)]
+
 ghost use Rattle.std.specs.Prelude.{◌≡◌, ◌+◌, ◌≤◌, length};
 ghost use Rattle.rules.specs.Bytes.{bytes_of};
 ghost use Rattle.rules.specs.Wide.{val};

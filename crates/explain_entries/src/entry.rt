@@ -12,7 +12,7 @@ use rules::{CandidateVerdict, KernelModel, UtilityTerms, Wide};
 pub type EntryBytes = [u8; EXPLANATION_BYTES];
 
 // A verdict in document 01's numbers, as they stand in an entry from offset 6 on.
-#[derive(Drop)]
+#[derive(Clone, Copy)]
 pub struct VerdictNumbers {
     pub kind: u8,
     pub gate: u8,

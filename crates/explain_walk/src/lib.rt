@@ -1,4 +1,6 @@
 // For other crates: the eligible entries of an explanation, one after the other. Users have the call from `explain`, which passes it on.
+#![tactic(auto)]
+
 ghost use Rattle.std.specs.Prelude.{◌≡◌};
 ghost use Rattle.rules.specs.Numbers.{told_next};
 ghost use Rattle.rules.specs.Explain.{next_eligible_of};

@@ -1,5 +1,7 @@
 // For the library: what stands behind the exported batches. A row of requests is bytes, 70 for each, and so is the row of decisions, 65 for each:
 // both are walked in place, and nothing is copied but one request and one decision at a time.
+#![tactic(auto)]
+
 mod refuse;
 mod row;
 

@@ -1,5 +1,7 @@
 // For the library: what `what_would_win` and `decision_margin` tell, in bytes: the decision, the model, and four rooms for levers.
 // `boundary_bytes` asks nothing of its caller.
+#![tactic(auto)]
+
 ghost use Rattle.std.specs.Prelude.{◌≡◌, ◌+◌, ◌≤◌, ◌++◌, length, replicate};
 ghost use Rattle.rules.specs.Bytes.{filled};
 ghost use Rattle.rules.specs.Numbers.{told_cost, told_entry, told_boundaries};

@@ -1,5 +1,7 @@
 // For the library: what stands behind the exported functions that bound a decision. Each function but the one that hands over takes the very
 // slices of an exported one and answers its word: 0, or the refusal's. That one serves the calls over live records as well.
+#![tactic(auto)]
+
 ghost use Rattle.std.specs.Prelude.{◌≡◌, ◌≤◌, [], length};
 ghost use Rattle.rules.specs.Numbers.{told_boundaries};
 ghost use Rattle.export_boundary_bytes.specs.Layout.{boundary_size, boundary_bytes};

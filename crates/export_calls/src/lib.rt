@@ -1,5 +1,7 @@
 // For the library: what stands behind the exported functions that decide and explain. Each function but the two that hand over takes the very
 // slices of an exported one and answers its word: 0, or the refusal's. Those two serve the calls over live records as well.
+#![tactic(auto)]
+
 ghost use Rattle.std.specs.Prelude.{◌≡◌, ◌≤◌, [], length};
 ghost use Rattle.rules.specs.Numbers.{told_prescribed, told_traced};
 ghost use Rattle.export_decision_bytes.specs.Layout.{decision_size, decision_bytes, uncounted_size, uncounted_bytes};

@@ -1,5 +1,7 @@
 // For the library: what stands behind the exported functions that check a catalogue, with the policy as bytes. Each function takes the very
 // slices of an exported one and answers its word: 0, or the refusal's.
+#![tactic(auto)]
+
 ghost use Rattle.std.specs.Prelude.{◌≡◌};
 ghost use Rattle.rules.specs.Refused.{first_fault};
 ghost use Rattle.export_checks.specs.Checks.{word_of};

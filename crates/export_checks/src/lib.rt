@@ -1,5 +1,7 @@
 // For other crates: what opens an exported function, the tests of lengths, bank and room that come before it decides or hands over anything;
 // a refusal as one word; and an answer handed over.
+#![tactic(auto)]
+
 pub mod hand;
 pub mod refuse;
 pub mod word;

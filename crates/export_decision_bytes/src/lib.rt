@@ -1,4 +1,6 @@
 // For the library: a decision in bytes, alone or with its counts. Nothing here asks anything of its caller.
+#![tactic(auto)]
+
 ghost use Rattle.std.specs.Prelude.{◌≡◌};
 ghost use Rattle.rules.specs.Numbers.{told_decision};
 ghost use Rattle.export_decision_bytes.specs.Layout.{uncounted_bytes, decision_bytes};

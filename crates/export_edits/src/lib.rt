@@ -1,5 +1,7 @@
 // For the library: what stands behind the exported functions that edit a bank. Each function takes the very slices of an exported one and answers
 // its word: 0, or the refusal's. What is lent is tested before the edit, which tests the bank again: an edit is rare.
+#![tactic(auto)]
+
 ghost use Rattle.std.specs.Prelude.{◌≡◌, ◌≤◌, [], length};
 ghost use Rattle.rules.specs.Limits.{policy_bytes};
 ghost use Rattle.rules.specs.Refused.{first_fault, told_outcome};

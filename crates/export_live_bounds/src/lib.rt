@@ -1,5 +1,7 @@
 // For the library: what stands behind the exported functions that bound a decision over live records. Each function takes the very slices of an
 // exported one and answers its word: 0, or the refusal's. The slots are read once.
+#![tactic(auto)]
+
 ghost use Rattle.std.specs.Prelude.{◌≡◌};
 ghost use Rattle.export_checks.specs.Checks.{lent};
 ghost use Rattle.export_live_bounds.specs.LiveBounds.{live_win_call, live_margin_call};

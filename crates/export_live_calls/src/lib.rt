@@ -1,5 +1,7 @@
 // For the library: what stands behind the exported functions that decide and explain over live records. Each function takes the very slices of
 // an exported one and answers its word: 0, or the refusal's. The slots are read once, before the scan.
+#![tactic(auto)]
+
 ghost use Rattle.std.specs.Prelude.{◌≡◌, [], ◌≤◌, length};
 ghost use Rattle.rules.specs.Limits.{request_bytes};
 ghost use Rattle.rules.specs.Records.{input_of, policy_of};

@@ -1,5 +1,7 @@
 // For other crates: what opens an exported function that runs over live records, or edits them. The slots are read once, for what refuses them and
 // for how many are live.
+#![tactic(auto)]
+
 ghost use Rattle.std.specs.Prelude.{◌≡◌};
 ghost use Rattle.rules.specs.Refused.{first_fault, told_outcome};
 ghost use Rattle.rules.specs.declared.refusal.Outcome.TheVariants.{Refused};

@@ -1,5 +1,7 @@
 // For the library: what stands behind the exported functions that look up a live record, its slot or its utility. Each function takes the very
 // slices of an exported one and answers its word: 0, or the refusal's.
+#![tactic(auto)]
+
 ghost use Rattle.std.specs.Prelude.{◌≡◌};
 ghost use Rattle.export_checks.specs.Checks.{lent};
 ghost use Rattle.export_live_lookups.specs.LiveLookups.{live_find_call, live_utility_call};

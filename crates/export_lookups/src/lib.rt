@@ -1,6 +1,8 @@
 // For the library: what stands behind the exported functions that look something up, a model's utility, its place, the next eligible entry of
 // a list. Each function but the two that hand over takes the very slices of an exported one and answers its word: 0, or the refusal's. Those two
 // serve the calls over live records as well.
+#![tactic(auto)]
+
 ghost use Rattle.std.specs.Prelude.{◌≡◌, ◌≤◌, [], length};
 ghost use Rattle.rules.specs.Numbers.{told_utility, told_found};
 ghost use Rattle.rules.specs.Explain.{next_eligible_of};

@@ -1,5 +1,7 @@
 // For other crates: the eight gates that a model meets, and the first that it fails.
 // A gate is its number, 1 to 8, in the order of document 01; 0 stands for none.
+#![tactic(auto)]
+
 ghost use Rattle.std.specs.Prelude.{◌≡◌, ◌+◌, ◌-◌, ◌%◌, ◌^◌, ◌≤◌};
 ghost use Rattle.rules.specs.Limits.{max_provider_id};
 ghost use Rattle.rules.specs.Gates.{is_slow, is_unable, is_barred, is_elsewhere, gate_of};

@@ -1,4 +1,6 @@
 // The calls that decide over a lent bank. They ask nothing of their caller.
+#![tactic(auto)]
+
 mod calls;
 
 pub use call_checks::{find, validate_input};

@@ -15,7 +15,7 @@ use kernel_stop::{Stop, stopped_by};
 use rules::limits::RECORD_BYTES;
 use rules::{KernelDecision, KernelInput, PolicySnapshot, RejectionHistogram};
 
-#[derive(Drop)]
+#[derive(Clone, Copy)]
 pub struct Decided {
     pub decision: KernelDecision,
     pub counts: RejectionHistogram,

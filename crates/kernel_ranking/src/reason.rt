@@ -7,7 +7,7 @@ ghost use Rattle.kernel_ranking.specs.Reason.{told_weight};
 use rules::{KernelReason, RejectionHistogram};
 
 // A reason with its count.
-#[derive(Drop)]
+#[derive(Clone, Copy)]
 pub struct Weighed {
     pub count: u16,
     pub reason: KernelReason,

@@ -9,13 +9,13 @@ use rules::RejectionHistogram;
 use rules::limits::NO_PLACE;
 
 // The first two of the ranking. A place that nobody holds has the candidate `nobody`, below every eligible model.
-#[derive(Drop)]
+#[derive(Clone, Copy)]
 pub struct Top {
     pub best: Candidate,
     pub second: Candidate,
 }
 
-#[derive(Drop)]
+#[derive(Clone, Copy)]
 pub struct State {
     pub counts: RejectionHistogram,
     pub top: Top,

@@ -1,4 +1,6 @@
 // For other crates: the scan, one loop over a part of a bank that goes on from a state.
+#![tactic(auto)]
+
 ghost use Rattle.std.specs.Prelude.{◌≡◌, length, set};
 ghost use Rattle.rules.specs.Records.{listed, listed_of, model_of};
 ghost use Rattle.pricing.specs.Pricing.{Settled, pricing_of};

@@ -1,11 +1,13 @@
 // For other crates: the request's limits, which stop it before any record is looked at.
+#![tactic(auto)]
+
 ghost use Rattle.std.specs.Prelude.{◌≡◌};
 ghost use Rattle.rules.specs.Decide.{stopped_by};
 ghost use Rattle.kernel_stop.specs.Stop.{told_stop};
 
 use rules::{KernelInput, KernelReason, PolicySnapshot};
 
-#[derive(Drop)]
+#[derive(Clone, Copy)]
 pub enum Stop {
     Open,
     By(KernelReason),

@@ -1,5 +1,7 @@
 // For other crates: the utility of one model. Its record is a part of a bank like any other, so a scan of that part says it. Users have
 // `utility_for_model` from `kernel`, which passes it on.
+#![tactic(auto)]
+
 ghost use Rattle.std.specs.Prelude.{◌≡◌, ◌<◌, ◌≤◌, length};
 ghost use Rattle.rules.specs.Limits.{max_catalog_models};
 ghost use Rattle.rules.specs.Records.{records_in, listed_of, model_at};

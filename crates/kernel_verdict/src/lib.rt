@@ -1,5 +1,7 @@
 // For other crates: what one record is told within a scan, the utility as its score; what that adds to the counts, and the model as it
 // enters the ranking.
+#![tactic(auto)]
+
 ghost use Rattle.std.specs.Prelude.{◌≡◌, ◌<◌};
 ghost use Rattle.rules.specs.Count.{total};
 ghost use Rattle.rules.specs.Limits.{max_catalog_models};
@@ -11,7 +13,7 @@ use pricing_terms::{ScoredTerms, ZERO_SCORE};
 use rules::{KernelInput, KernelModel, RejectionHistogram};
 
 // What `explain` tells a record, less what a scan does not need: the gate's number, the cost, or the terms.
-#[derive(Drop)]
+#[derive(Clone, Copy)]
 pub enum Verdict {
     Rejected(u8),
     OverBudget(u64),
@@ -20,7 +22,7 @@ pub enum Verdict {
 }
 
 // What a model is ranked by. The utility is its score, 2^63 above it, so that unsigned numbers order it.
-#[derive(Drop)]
+#[derive(Clone, Copy)]
 pub struct Candidate {
     pub model_id: u32,
     pub model_index: u16,

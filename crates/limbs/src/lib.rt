@@ -1,5 +1,7 @@
 // For other crates: sums, differences and the order of numbers of two limbs, where the Rust computes in u128 and i128. A contract speaks of
 // what the numbers stand for (`val`, and `val_z` with a sign): how limbs carry and borrow concerns nobody outside this file.
+#![tactic(auto)]
+
 ghost use Rattle.std.specs.Prelude.{◌≡◌, min, ◌+◌, ◌-◌, ◌^◌, ◌<◌, ◌≤◌, ltb, pos, ◌-ℤ◌};
 ghost use Rattle.rules.specs.Limits.{max_u64};
 ghost use Rattle.rules.specs.Wide.{val, val_z};

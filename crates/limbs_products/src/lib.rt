@@ -1,5 +1,7 @@
 // For other crates: products of two u64 as numbers of two limbs, and their quotients, where the Rust multiplies and divides in u128. As in `limbs`,
 // a contract speaks of what the numbers stand for.
+#![tactic(auto)]
+
 ghost use Rattle.std.specs.Prelude.{◌≡◌, ◌+◌, ◌*◌, ◌/◌, ◌^◌, ◌<◌};
 ghost use Rattle.rules.specs.Wide.{val, limbs};
 
@@ -30,7 +32,7 @@ pub fn product(u: u64, v: u64) -> Wide
 }
 
 // A limb of a quotient, and what the division leaves to the next limb.
-#[derive(Drop)]
+#[derive(Clone, Copy)]
 struct Division {
     quotient: u64,
     rem: u64,

@@ -1,5 +1,7 @@
 // A bank whose models are swapped without a reload: its edits by id and its compaction, and decisions, explanations and boundaries over its live
 // records alone. The calls passed on here ask nothing of their caller.
+#![tactic(auto)]
+
 pub use batch::live::{prescribe_batch, prescribe_batch_checked};
 pub use explain::next_eligible;
 pub use live_bounds::{decision_margin, what_would_win};

@@ -1,5 +1,7 @@
 // What would win, and the margin, over a bank's live records alone, as if the catalogue listed nothing else. For other crates: users have the calls
 // from `live`, which passes them on.
+#![tactic(auto)]
+
 ghost use Rattle.std.specs.Prelude.{◌≡◌};
 ghost use Rattle.rules.specs.Numbers.{told_boundaries};
 ghost use Rattle.rules.specs.Live.{live_what_would_win_of, live_decision_margin_of};

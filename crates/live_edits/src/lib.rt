@@ -1,4 +1,6 @@
 // Models swapped in a bank without a reload: a record is added, replaced or removed by its id. Those passed on here ask nothing of their caller.
+#![tactic(auto)]
+
 mod edits;
 pub mod epoch;
 mod placing;

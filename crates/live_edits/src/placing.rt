@@ -15,7 +15,7 @@ use live_slots::slots::{first_live, read_slots};
 use rules::{Found, Outcome, PolicySnapshot, Refusal};
 
 // Where an edit writes.
-#[derive(Drop)]
+#[derive(Clone, Copy)]
 pub enum Slot {
     Refused(Refusal),
     At(u16),

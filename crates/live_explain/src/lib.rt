@@ -1,4 +1,6 @@
 // The explanation of a decision over a bank whose models are swapped: what each live record is told. The call asks nothing of its caller.
+#![tactic(auto)]
+
 ghost use Rattle.std.specs.Prelude.{◌≡◌};
 ghost use Rattle.rules.specs.Numbers.{told_prescribed};
 ghost use Rattle.rules.specs.Live.{live_explain_of, live_explain_list};

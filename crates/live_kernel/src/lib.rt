@@ -1,5 +1,7 @@
 // The calls that decide over the live records of a bank whose models are swapped: as those of `kernel`, as if it listed nothing else. They ask nothing of
 // their caller. Users have them from `live`, which passes them on.
+#![tactic(auto)]
+
 mod calls;
 mod single;
 mod traced;

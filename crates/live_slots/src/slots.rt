@@ -15,7 +15,7 @@ use rules::{Found, Outcome, Refusal};
 use sorting::insertion::id_at;
 
 // What refuses a bank, and how many of its records are live; 0 where it is refused.
-#[derive(Drop)]
+#[derive(Clone, Copy)]
 pub struct Slots {
     pub outcome: Outcome,
     pub live: u16,

@@ -1,5 +1,7 @@
 // The bytes that say a model, a request and a policy. Every layout is packed: each field starts where the one before it ends. What is passed on
 // here asks nothing of its caller; `unchecked` is for other crates.
+#![tactic(auto)]
+
 pub mod unchecked;
 
 ghost use Rattle.std.specs.Prelude.{◌≡◌, length};

@@ -1,5 +1,7 @@
 // For other crates: what a policy and a request settle once for every model. Numbers that fit 64 bits take the short way, decided by a test on
 // the numbers alone; all others go by two limbs, in functions of their own.
+#![tactic(auto)]
+
 mod settle;
 
 use rules::{Rounding, Wide};
@@ -10,7 +12,7 @@ pub const PREFIX_LIMIT: u64 = 0x1_0000_0000_0000;
 
 // What a policy and a request settle once, for every model: the Rust's `Pricing`. `quality_prefix` is the value times the
 // confidence where the value is below 2^48, else the highest u64: it tells which of the two ways a quality term goes.
-#[derive(Drop)]
+#[derive(Clone, Copy)]
 pub struct Pricing {
     pub value: u64,
     pub confidence_bps: u16,

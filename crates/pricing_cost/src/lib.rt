@@ -1,5 +1,7 @@
 // For other crates: what a model costs for a request. By 64 bits where the prices are below 2^32, whatever the tokens, or below 2^40 and the
 // tokens below 2^24, and once below half of that, since there two products are added; else by two limbs.
+#![tactic(auto)]
+
 ghost use Rattle.std.specs.Prelude.{◌≡◌, min, ◌+◌, ◌-◌, ◌*◌, ◌/◌, ◌%◌, ◌^◌, ◌<◌, ◌≤◌};
 ghost use Rattle.rules.specs.Limits.{cost_scale, max_u64};
 ghost use Rattle.rules.specs.Price.{billed, billed_both, cost_of};

@@ -1,5 +1,7 @@
 // The question from the desk: what would make a model win, in the unit program's lines, as a call on slices, `ask_text`, which asks nothing of
 // its caller. `ask_outcome` is for other crates.
+#![tactic(auto)]
+
 ghost use Rattle.std.specs.Prelude.{◌≡◌, ◌≤◌, length};
 ghost use Rattle.rules.specs.Refused.{first_fault, told_outcome};
 ghost use Rattle.rules.specs.Numbers.{told_written, told_boundaries};

@@ -1,4 +1,6 @@
 // For other crates: a text that is made, handed over; where it ends. `sizes` has the rooms that suffice.
+#![tactic(auto)]
+
 pub mod sizes;
 
 ghost use Rattle.std.specs.Prelude.{◌≡◌, length};

@@ -1,5 +1,7 @@
 // For other crates: what the programs' input says, once its fields are seen to be whole, and what refuses it. The bank is the very part of
 // the input in which it stands.
+#![tactic(auto)]
+
 ghost use Rattle.std.specs.Prelude.{◌≡◌};
 ghost use Rattle.rules.specs.Refused.{first_fault, told_outcome};
 ghost use Rattle.rules.specs.Stored.{stored_policy, stored_bank};

@@ -1,4 +1,6 @@
 // For other crates: the lines of a report that tell levers, put into a buffer from a position on, which must leave room.
+#![tactic(auto)]
+
 ghost use Rattle.std.specs.Prelude.{◌≡◌, map, ◌+◌, ◌≤◌, length, take};
 ghost use Rattle.rules.specs.Numbers.{told_cost, told_entry};
 ghost use Rattle.rules.specs.Printed.{lever_line, lever_lines};

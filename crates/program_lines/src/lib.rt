@@ -1,5 +1,7 @@
 // For other crates: the lines of a report that tell a decision, its counts or a refusal, each put into a buffer from a position on, which must leave
 // room.
+#![tactic(auto)]
+
 ghost use Rattle.std.specs.Prelude.{◌≡◌, ◌+◌, ◌≤◌, length};
 ghost use Rattle.rules.specs.Refused.{told_refusal};
 ghost use Rattle.rules.specs.Numbers.{told_decision};

@@ -1,5 +1,7 @@
 // For other crates: what sentences are made of, words about numbers and shares in percent, each put into a buffer from a position on, which must
 // leave room.
+#![tactic(auto)]
+
 ghost use Rattle.std.specs.Prelude.{◌≡◌, ◌+◌, ◌%◌, ◌≤◌, length};
 ghost use Rattle.rules.specs.Limits.{ppm};
 ghost use Rattle.rules.specs.Text.{decimal};

@@ -1,9 +1,11 @@
 // For `ask`: what the arguments of the question from the desk ask. `question_of` asks nothing of its caller.
+#![tactic(auto)]
+
 ghost use Rattle.std.specs.Prelude.{◌≡◌, ◌-◌};
 ghost use Rattle.rules.specs.Choice.{below};
 ghost use Rattle.program_question.specs.DeskQuestion.{about_of, in_words, question_of};
 
-#[derive(Drop)]
+#[derive(Clone, Copy)]
 pub enum DeskQuestion {
     // An id alone.
     Lines(u32),

@@ -1,4 +1,6 @@
 // For other crates: what refuses an input, in words, put into a buffer from a position on, which must leave room.
+#![tactic(auto)]
+
 ghost use Rattle.std.specs.Prelude.{◌≡◌, ◌+◌, ◌≤◌, length};
 ghost use Rattle.rules.specs.Refused.{told_refusal};
 ghost use Rattle.rules.specs.FaultWords.{too_many, field_words, range_words, fault_words, refused_words};

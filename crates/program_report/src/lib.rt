@@ -1,5 +1,7 @@
 // What the unit's program prints, decision, counts and margin, as a call on slices: from the bytes of the input to the bytes of the answer. It
 // asks nothing of its caller.
+#![tactic(auto)]
+
 ghost use Rattle.std.specs.Prelude.{◌≡◌, [], ◌≤◌, length};
 ghost use Rattle.rules.specs.Records.{listed_of};
 ghost use Rattle.rules.specs.Refused.{bank_faults};

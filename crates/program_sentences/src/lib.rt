@@ -1,5 +1,7 @@
 // For other crates: the sentences of levers, each put into a buffer from a position on, which must leave room. None has more than 230 bytes, and none
 // but the price's more than 120.
+#![tactic(auto)]
+
 ghost use Rattle.std.specs.Prelude.{◌≡◌, [], map, ◌+◌, ◌-◌, ◌≤◌, length, take};
 ghost use Rattle.rules.specs.Limits.{ppm};
 ghost use Rattle.rules.specs.Numbers.{told_cost, told_entry, told_boundaries};

@@ -1,4 +1,6 @@
 // The question from the desk in plain English: who was chosen, why the model asked about was not, and what would make it the choice.
+#![tactic(auto)]
+
 ghost use Rattle.std.specs.Prelude.{◌≡◌, ◌++◌, ◌+◌, ◌≤◌, eqb, length};
 ghost use Rattle.rules.specs.Limits.{max_catalog_models};
 ghost use Rattle.rules.specs.Records.{records_in, listed_of};

@@ -1,5 +1,7 @@
 // For other crates: what a failed gate measured, and the count that a rejected model raises, which must have room.
 // A gate is its number, 1 to 8, as in `gates`.
+#![tactic(auto)]
+
 ghost use Rattle.std.specs.Prelude.{◌≡◌, ◌<◌};
 ghost use Rattle.rules.specs.Limits.{max_catalog_models};
 ghost use Rattle.rules.specs.Gates.{detail, detail_of};

@@ -8,7 +8,7 @@ use endian::{u16_at, u32_at, u64_at};
 use splice::put_bytes;
 
 // One entry: its size, 0 where the list is cut short, and whether the answer is the one that is owed.
-#[derive(Drop)]
+#[derive(Clone, Copy)]
 pub(crate) struct Entry {
     pub size: usize,
     pub same: bool,
@@ -32,7 +32,7 @@ const ROOM: usize = 1_024;
 const FILL: u8 = 165;
 
 // How long the policy is, where the other parts that are read end, and how long the space and the buffer are.
-#[derive(Drop)]
+#[derive(Clone, Copy)]
 struct Parts {
     policy: usize,
     request: usize,

@@ -5,7 +5,7 @@ use crate::entry::first;
 
 // What was replayed: how many answers, how many of them differ, how many were told by the Rust, by the second reading and by both, and how
 // many bytes of the list are left over.
-#[derive(Drop)]
+#[derive(Clone, Copy)]
 pub(crate) struct Told {
     pub answers: u64,
     pub different: u64,

@@ -1,5 +1,7 @@
 // Replays a fixed list of questions with the answers that are owed, and tells how many there are, how many differ, and who told them. The list
 // is standard input; compare/cases made it from the Rust and from a second reading of the rules. No Rust is needed here.
+#![tactic(auto)]
+
 mod calls;
 mod entry;
 mod list;

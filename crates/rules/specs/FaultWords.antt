@@ -3,7 +3,7 @@ use Rattle.std.specs.Prelude.{ℕ, List, [], ◌++◌}
 use Rattle.rules.specs.Choice.{equal}
 use Rattle.rules.specs.Refused.{Fault}
 use Rattle.rules.specs.Text.{text}
-use Rattle.rules.specs.Phrases.{sentence, about, comparing}
+use Rattle.rules.specs.Phrases.{sentence, about}
 use Rattle.rules.specs.NotChosen.{of_model}
 use Rattle.rules.specs.Printed.{refused_line}
 

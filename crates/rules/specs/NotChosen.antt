@@ -5,7 +5,7 @@ use Rattle.std.specs.Int.Signed.{lt_z}
 use Rattle.rules.specs.Choice.{below, equal, pick}
 use Rattle.rules.specs.Records.{Listed}
 use Rattle.rules.specs.Numbers.{Decision, Verdict}
-use Rattle.rules.specs.Text.{text, decimal, signed_decimal}
+use Rattle.rules.specs.Text.{text, signed_decimal}
 use Rattle.rules.specs.Phrases.{sentence, about, comparing}
 
 -- Q4. A sentence about a model

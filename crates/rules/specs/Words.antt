@@ -1,6 +1,6 @@
 -- The question from the desk answered in plain English: who was chosen, why the model asked about was not, and what would make it the choice.
 use Rattle.rules.specs.Refused.{unless}
-use Rattle.std.specs.Prelude.{ℕ, ◌-◌, Bool, false, List, [], ◌∷◌, ◌++◌, eqb}
+use Rattle.std.specs.Prelude.{ℕ, ◌-◌, Bool, List, [], ◌∷◌, ◌++◌, eqb}
 use Rattle.std.proofs.Math.Option.{Option, none, some}
 use Rattle.rules.specs.Limits.{ppm}
 use Rattle.rules.specs.Choice.{equal, pick}
@@ -10,7 +10,7 @@ use Rattle.rules.specs.Listing.{first_listed}
 use Rattle.rules.specs.Verdict.{verdict_of}
 use Rattle.rules.specs.Levers.{selects}
 use Rattle.rules.specs.Stored.{stored_policy}
-use Rattle.rules.specs.Text.{text, decimal, signed_decimal}
+use Rattle.rules.specs.Text.{text, signed_decimal}
 use Rattle.rules.specs.Printed.{program_models, program_request, ask_faults, asked_of, entries_of}
 use Rattle.rules.specs.Phrases.{sentence, about, comparing, percent, percent_up}
 use Rattle.rules.specs.NotChosen.{of_model, quality_of, standing_words}

@@ -4,20 +4,20 @@ use crate::decision::KernelDecision;
 use crate::refusal::Outcome;
 
 // The boundary with the passes that it took, or the passes alone.
-#[derive(Drop)]
+#[derive(Clone, Copy)]
 pub enum Bound {
     At(u64, u64),
     Nothing(u64),
 }
 
 // What the decision costs at the boundary: the price lever's alone.
-#[derive(Drop)]
+#[derive(Clone, Copy)]
 pub enum BoundaryCost {
     Unpriced,
     Microunits(u64),
 }
 
-#[derive(Drop)]
+#[derive(Clone, Copy)]
 pub struct Requirement {
     pub lever: u8,
     pub current: u64,
@@ -26,7 +26,7 @@ pub struct Requirement {
 }
 
 // Room for four levers, how many are there, and the passes. The rooms after the last are zero.
-#[derive(Drop)]
+#[derive(Clone, Copy)]
 pub struct Levers {
     pub levers: [Requirement; 4],
     pub count: usize,
@@ -34,7 +34,7 @@ pub struct Levers {
 }
 
 // The Rust's `Counterfactual` and `Margin` in one. Where it is refused, every number is 0 and the decision is `NO_DECISION`.
-#[derive(Drop)]
+#[derive(Clone, Copy)]
 pub struct Boundaries {
     pub outcome: Outcome,
     pub model_id: u32,

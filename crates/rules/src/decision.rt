@@ -4,7 +4,7 @@ ghost use Rattle.rules.specs.Numbers.{action_no, reason_no};
 
 use crate::refusal::Refusal;
 
-#[derive(Drop)]
+#[derive(Clone, Copy)]
 pub enum KernelAction {
     // The requested model was chosen.
     ExecuteRequested,
@@ -14,7 +14,7 @@ pub enum KernelAction {
     Reject,
 }
 
-#[derive(Drop)]
+#[derive(Clone, Copy)]
 pub enum KernelReason {
     RequestedModelMaximizesUtility,
     AlternativeMaximizesUtility,
@@ -31,7 +31,7 @@ pub enum KernelReason {
     RiskCeilingConstraint,
 }
 
-#[derive(Drop)]
+#[derive(Clone, Copy)]
 pub struct KernelDecision {
     pub request_sequence: u64,
     pub action: KernelAction,
@@ -52,7 +52,7 @@ pub struct KernelDecision {
 }
 
 // How many records each reason turned away, in the order in which document 01 prints the counts.
-#[derive(Drop)]
+#[derive(Clone, Copy)]
 pub struct RejectionHistogram {
     pub disabled: u16,
     pub quality: u16,
@@ -66,7 +66,7 @@ pub struct RejectionHistogram {
     pub utility: u16,
 }
 
-#[derive(Drop)]
+#[derive(Clone, Copy)]
 pub struct DecisionTrace {
     pub rejections: RejectionHistogram,
     pub evaluated_models: u16,
@@ -74,28 +74,28 @@ pub struct DecisionTrace {
 }
 
 // The answer of `prescribe`, `prescribe_checked` and `explain`.
-#[derive(Drop)]
+#[derive(Clone, Copy)]
 pub enum Prescribed {
     Refused(Refusal),
     Decided(KernelDecision),
 }
 
 // The answer of `prescribe_with_trace` and its checked form.
-#[derive(Drop)]
+#[derive(Clone, Copy)]
 pub enum Traced {
     Refused(Refusal),
     Decided(KernelDecision, DecisionTrace),
 }
 
 // The answer of `utility_for_model`.
-#[derive(Drop)]
+#[derive(Clone, Copy)]
 pub enum UtilityFound {
     Refused(Refusal),
     Utility(i64),
 }
 
 // The answer of `find`: the first listed place with an id.
-#[derive(Drop)]
+#[derive(Clone, Copy)]
 pub enum Found {
     Refused(Refusal),
     At(u16),

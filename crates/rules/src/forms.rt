@@ -3,34 +3,34 @@ use crate::records::{KernelInput, PolicySnapshot};
 use crate::refusal::Refusal;
 
 // The policy that 30, 31 or 35 bytes say.
-#[derive(Drop)]
+#[derive(Clone, Copy)]
 pub enum PolicyRead {
     Refused(Refusal),
     Read(PolicySnapshot),
 }
 
 // The policy, and how many bytes of models stand at the buffer's start.
-#[derive(Drop)]
+#[derive(Clone, Copy)]
 pub enum StoredRead {
     Refused(Refusal),
     Read(PolicySnapshot, usize),
 }
 
-#[derive(Drop)]
+#[derive(Clone, Copy)]
 pub enum RequestRead {
     Refused(Refusal),
     Read(KernelInput),
 }
 
 // How many bytes were written to the buffer's start.
-#[derive(Drop)]
+#[derive(Clone, Copy)]
 pub enum Written {
     Refused(Refusal),
     Bytes(usize),
 }
 
 // Where a reader stands in a field.
-#[derive(Drop)]
+#[derive(Clone, Copy)]
 pub enum Within {
     // At its front.
     Front,
@@ -45,7 +45,7 @@ pub enum Within {
 }
 
 // What is known of a form from the bytes so far.
-#[derive(Drop)]
+#[derive(Clone, Copy)]
 pub struct Reader {
     pub within: Within,
     // The tag of the field that it is in, or was in last; 0 before the first.

@@ -1,6 +1,8 @@
 // The types and constants that every crate shares, under the names of the Rust, a file for each part of document 01.
 // What they mean is said in specs/. No code here does more than give a case its number or answer one question of a
 // decision.
+#![tactic(auto)]
+
 pub mod boundary;
 pub mod decision;
 pub mod edits;

@@ -2,7 +2,7 @@
 ghost use Rattle.std.specs.Prelude.{◌≡◌};
 ghost use Rattle.rules.specs.Records.{rounding_no};
 
-#[derive(Drop)]
+#[derive(Clone, Copy)]
 pub struct KernelModel {
     pub model_id: u32,
     // 0 to 63; a higher one fails gate 5.
@@ -19,7 +19,7 @@ pub struct KernelModel {
     pub output_cost_microunits_per_million_tokens: u64,
 }
 
-#[derive(Drop)]
+#[derive(Clone, Copy)]
 pub struct KernelInput {
     pub request_sequence: u64,
     pub requested_model_id: u32,
@@ -39,7 +39,7 @@ pub struct KernelInput {
 }
 
 // How a cost is rounded up to whole microunits: input and output each apart, as the Rust does, or their sum once.
-#[derive(Drop)]
+#[derive(Clone, Copy)]
 pub enum Rounding {
     Apart,
     Once,
@@ -59,7 +59,7 @@ impl Rounding {
 
 // The policy's six numbers, how it rounds a cost, and how many milliseconds of a latency are free of the penalty. The bank stands beside it, lent by
 // the caller.
-#[derive(Drop)]
+#[derive(Clone, Copy)]
 pub struct PolicySnapshot {
     pub policy_epoch: u64,
     pub catalog_epoch: u64,

@@ -2,7 +2,7 @@
 ghost use Rattle.std.specs.Prelude.{◌≡◌};
 ghost use Rattle.rules.specs.Refused.{told_refusal};
 
-#[derive(Drop)]
+#[derive(Clone, Copy)]
 pub enum Refusal {
     // 1: the bank's length is no multiple of a record's.
     UnevenBank,
@@ -78,14 +78,14 @@ pub enum Refusal {
 }
 
 // Whether a call was refused, where it answers nothing else or its answer stands beside this.
-#[derive(Drop)]
+#[derive(Clone, Copy)]
 pub enum Outcome {
     Answered,
     Refused(Refusal),
 }
 
 // The answer of `trust`: a struct, since more may come to stand in it.
-#[derive(Drop)]
+#[derive(Clone, Copy)]
 pub struct Trusted {
     pub outcome: Outcome,
 }

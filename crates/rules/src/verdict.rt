@@ -2,7 +2,7 @@
 use crate::wide::Wide;
 
 // The terms behind a utility. None of the three wide ones is ever below 0, so they carry no sign.
-#[derive(Drop)]
+#[derive(Clone, Copy)]
 pub struct UtilityTerms {
     pub quality_adjusted: Wide,
     pub risk_penalty: Wide,
@@ -13,14 +13,14 @@ pub struct UtilityTerms {
 }
 
 // The two numbers that a failed gate compared.
-#[derive(Drop)]
+#[derive(Clone, Copy)]
 pub struct GateDetail {
     pub measured: u64,
     pub limit: u64,
 }
 
 // The gate is its number, 1 to 8, in the order in which gates are met.
-#[derive(Drop)]
+#[derive(Clone, Copy)]
 pub enum CandidateVerdict {
     Rejected {
         gate: u8,
@@ -36,7 +36,7 @@ pub enum CandidateVerdict {
 }
 
 // The place of the next eligible entry of an explanation, or none.
-#[derive(Drop)]
+#[derive(Clone, Copy)]
 pub enum NextEligible {
     At(usize),
     NoMore,

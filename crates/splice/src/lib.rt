@@ -1,4 +1,6 @@
 // For other crates: bytes written into a lent buffer at a position, which must leave room for them.
+#![tactic(auto)]
+
 ghost use Rattle.std.specs.Prelude.{◌≡◌, ◌+◌, ◌≤◌, length};
 ghost use Rattle.endian_writing.specs.Put.{patched};
 

@@ -1,4 +1,6 @@
 // The stored form of a policy with its bank, and the request form: read from bytes, and written to a lent buffer. Nothing is asked of a caller.
+#![tactic(auto)]
+
 mod catalog;
 mod request;
 

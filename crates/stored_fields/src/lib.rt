@@ -1,5 +1,7 @@
 // For other crates: a field, which is a tag in one byte, the length of the body in two, the body. One is looked for at the front of some bytes,
 // and answered once it is seen to be whole there.
+#![tactic(auto)]
+
 ghost use Rattle.std.specs.Prelude.{◌≡◌};
 ghost use Rattle.rules.specs.Refused.{first_fault, told_outcome};
 ghost use Rattle.rules.specs.Stored.{fits as fits_tag, body_of, body_faults};
@@ -30,7 +32,7 @@ pub const ROUNDING_ONCE: u8 = 1;
 pub const ALLOWANCE_BYTES: usize = 4;
 
 // What stands where a field is looked for.
-#[derive(Drop)]
+#[derive(Clone, Copy)]
 pub enum Field {
     // A whole field of so many bytes, its header's among them.
     Bytes(usize),

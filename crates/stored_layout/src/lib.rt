@@ -1,5 +1,7 @@
 // For other crates: a form, which is fields one after the other: whether it is whole, what stands in it once it is, and a field as it is
 // written.
+#![tactic(auto)]
+
 ghost use Rattle.std.specs.Prelude.{◌≡◌, ◌+◌, ◌≤◌, length, []};
 ghost use Rattle.rules.specs.Refused.{first_fault, told_outcome};
 ghost use Rattle.rules.specs.Limits.{field_header_bytes};

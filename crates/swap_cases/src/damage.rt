@@ -35,7 +35,7 @@ const PLACES: usize = 43;
 const MARK: u8 = 0xa7;
 
 // How many cases there are, how many differ, and the number of the first that does.
-#[derive(Drop)]
+#[derive(Clone, Copy)]
 pub(crate) struct Told {
     pub cases: u64,
     pub different: u64,

@@ -1,6 +1,8 @@
 // The live calls and the edits on what is damaged: every set of up to six faults at once, at many places each, by a policy with an allowance and by one
 // without, through each of the eleven calls.
 // Told must be the first fault in the documents' order, and no lent byte may change. The worked example is standard input.
+#![tactic(auto)]
+
 mod calls;
 mod damage;
 mod owed;

@@ -1,6 +1,8 @@
 // For other crates: numbers and lines put into a lent buffer one after the other. Each function takes a position, which must leave room,
 // and answers the next one. The text of an i64 has at most 20 bytes, as that of a u64, so that a caller can tell from the count of its
 // numbers that a buffer suffices.
+#![tactic(auto)]
+
 ghost use Rattle.std.specs.Prelude.{◌≡◌, [], ◌∷◌, map, ◌+◌, ◌*◌, ◌≤◌, ◌<◌, length};
 ghost use Rattle.rules.specs.Text.{decimal, signed_decimal, spaced, line};
 ghost use Rattle.std.proofs.Math.Option.{some};

@@ -1,5 +1,7 @@
 // The unit's program: standard input has the policy, the bank and the request as fields; standard output gets the answer. What it answers
 // depends on no byte after the first 65,639, so it reads no more.
+#![tactic(auto)]
+
 ghost use Rattle.std.specs.Prelude.{◌≡◌, ◌≤◌, length, take};
 ghost use Rattle.io.specs.Counts.{IsPrefixLen};
 ghost use Rattle.rules.specs.Printed.{unit_text};

@@ -1,5 +1,7 @@
 // For other crates: the models and requests that bytes say. Every layout is packed: each field starts where the one before it ends. What reads a
 // slice asks its caller for enough bytes; what reads an array (`whole`) asks nothing, and `bank` passes it on to users.
+#![tactic(auto)]
+
 ghost use Rattle.std.specs.Prelude.{◌≡◌, ◌≤◌, length};
 ghost use Rattle.rules.specs.Limits.{record_bytes, request_bytes};
 ghost use Rattle.rules.specs.Records.{model_of, input_of};

@@ -1,6 +1,8 @@
 // For other crates: the policy that 30 bytes say, which rounds apart and has no allowance, or 31, of which the last says how it rounds, or 35, of which
 // the last four say its allowance; and which bytes say none. The numbers are packed as in `unpacking`. What reads them asks its caller for so many
 // bytes; what refuses asks nothing, and `bank` passes `policy_from` on to users.
+#![tactic(auto)]
+
 ghost use Rattle.std.specs.Prelude.{◌≡◌, ◌||◌, [], ◌≤◌, eqb, length};
 ghost use Rattle.rules.specs.Limits.{policy_bytes, rounded_policy_bytes, longest_policy_bytes};
 ghost use Rattle.rules.specs.Bytes.{number_at};

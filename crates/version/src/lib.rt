@@ -1,5 +1,7 @@
 // For the library and the programs: which version this is. The file VERSION at the root says the same, and the tests of `bindings/rust` hold the two
 // together, with the header and the changelog.
+#![tactic(auto)]
+
 ghost use Rattle.std.specs.Prelude.{◌≡◌};
 ghost use Rattle.version.specs.Version.{this_version};
 

@@ -1,5 +1,7 @@
 // A view: the lent bank, an index, and one model by value that stands in for the record there. It is the Rust's `with_model` without
 // the copy of the catalogue. Thin functions make a view, take it apart and call those with plain parameters.
+#![tactic(auto)]
+
 ghost use Rattle.std.specs.Prelude.{◌≡◌, ◌≤◌, length};
 ghost use Rattle.rules.specs.Limits.{max_catalog_models};
 ghost use Rattle.rules.specs.Records.{records_in, listed_of};
@@ -14,7 +16,7 @@ use packing::model_bytes;
 use rules::limits::RECORD_BYTES;
 use rules::{KernelDecision, KernelInput, KernelModel, Outcome, PolicySnapshot, Prescribed};
 
-#[derive(Drop)]
+#[derive(Clone, Copy)]
 pub struct View<'a> {
     pub bank: &'a [u8],
     // An index beyond the bank means the bank as it is.

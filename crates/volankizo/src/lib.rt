@@ -7,6 +7,8 @@
 // overlaps nothing else that is lent, and the bytes after it stay as they were.
 // The promise of each is one equation for the word and every byte of each writable buffer, so any two permitted answers are equal.
 // Each hands on to one function of the crates `export_..` with the same promise.
+#![tactic(auto)]
+
 pub mod batch;
 pub mod forms;
 pub mod live;
