@@ -18,6 +18,7 @@ fn detail(measured: u64, limit: u64) -> GateDetail
 }
 
 // The two numbers that a gate compared; 0 and 0 for a number that is no gate's.
+#[tactic(auto, unfolding(rules::specs::Gates::detail_of, rules::specs::Choice::equal))]
 pub fn gate_detail(model: KernelModel, input: KernelInput, gate: u8) -> GateDetail
     ensures { result ≡ detail_of model input gate }
 {
@@ -38,6 +39,7 @@ pub fn gate_detail(model: KernelModel, input: KernelInput, gate: u8) -> GateDeta
 
 // `bump`: the counts with the one that a failed gate raises one higher. Gates 5 and 6 share the provider's.
 // No count can overflow where the nine together are below 65,535; a number that is no gate's raises none.
+#[tactic(auto, unfolding(rules::specs::Count::raised_by, rules::specs::Count::gate_reason, rules::specs::Choice::equal))]
 pub fn raised(counts: RejectionHistogram, gate: u8) -> RejectionHistogram
     requires { total counts < max_catalog_models }
     ensures { result ≡ raised_by counts (gate_reason gate) }
@@ -57,6 +59,7 @@ pub fn raised(counts: RejectionHistogram, gate: u8) -> RejectionHistogram
 }
 
 // The counts with one more record that is over its budget.
+#[tactic(auto, unfolding(rules::specs::Count::raised_by, rules::specs::Choice::equal))]
 pub fn raised_for_budget(counts: RejectionHistogram) -> RejectionHistogram
     requires { total counts < max_catalog_models }
     ensures { result ≡ raised_by counts 108 }
@@ -67,6 +70,7 @@ pub fn raised_for_budget(counts: RejectionHistogram) -> RejectionHistogram
 }
 
 // The counts with one more record that has no positive utility.
+#[tactic(auto, unfolding(rules::specs::Count::raised_by, rules::specs::Choice::equal))]
 pub fn raised_for_utility(counts: RejectionHistogram) -> RejectionHistogram
     requires { total counts < max_catalog_models }
     ensures { result ≡ raised_by counts 109 }
