@@ -26,3 +26,4 @@ pub mod KeyRows
 pub mod OnceRows
 pub mod AllowanceRows
 pub mod BoundaryRows
+pub mod Arms
