@@ -3,30 +3,34 @@
 #![tactic(auto)]
 
 ghost use Rattle.std.specs.Prelude.{◌≡◌, ◌≤◌, length, take};
-ghost use Rattle.io.specs.Counts.{IsPrefixLen};
+ghost use Rattle.std.specs.Io.{ReadsAtMost};
+ghost use Rattle.program_streams.specs.Prefix.{IsPrefixLen};
 ghost use Rattle.program_deliver.specs.Sizes.{read_bytes, words_bytes};
 ghost use Rattle.ask.specs.Answer.{answer_text};
 
-use libc::{STDERR_FILENO, STDIN_FILENO, STDOUT_FILENO};
 use program_deliver::end_of;
 use program_deliver::sizes::{INPUT_BYTES, WORDS_BYTES};
 use program_question::{DeskQuestion, question_of};
+use program_streams::{argument, argument_count, read_full};
+use std::env::Env;
+use std::io;
+use std::io::Read;
 
-// Standard input, as far as an answer depends on it.
-fn read_input(buffer: &mut [u8]) -> usize
+// The input, as far as an answer depends on it.
+fn read_input<R: Read>(reader: &mut R, buffer: &mut [u8]) -> io::Result<usize>
     requires { read_bytes ≤ length buffer.old }
-    ensures { IsPrefixLen result buffer.new }
+    ensures { ReadsAtMost result buffer.new }
 {
-    io::read_full(STDIN_FILENO, buffer)
+    read_full(reader, buffer)
 }
 
 // What the program's arguments ask.
-fn asked() -> DeskQuestion {
+fn asked<E: Env>(environment: &E) -> DeskQuestion {
     let mut id = [0u8; 4096];
     let mut form = [0u8; 4096];
-    let n = os::arg(1, &mut id);
-    let m = os::arg(2, &mut form);
-    question_of(os::arg_count(), &id[..n], &form[..m])
+    let n = argument(environment, 1, &mut id);
+    let m = argument(environment, 2, &mut form);
+    question_of(argument_count(environment), &id[..n], &form[..m])
 }
 
 // The answer to a question: the first bytes of a buffer into which every text fits.
@@ -42,18 +46,16 @@ fn answer(question: DeskQuestion, input: &[u8], out: &mut [u8]) -> usize
     }
 }
 
-fn main() {
-    let question = asked();
+fn main(rt: HostRuntime) -> io::Result<()> {
+    let question = asked(&rt);
     if let DeskQuestion::Unclear = question {
-        io::write_all(
-            STDERR_FILENO,
+        return rt.stderr().write_all(
             b"ask 0.5.0, usage: ask ID, or ask ID words, with an ID from 0 to 4294967295\n",
         );
-        return;
     }
     let mut input = [0u8; INPUT_BYTES];
-    let n = read_input(&mut input);
+    let n = read_input(&mut rt.stdin(), &mut input)?;
     let mut out = [0u8; WORDS_BYTES];
     let end = answer(question, &input[..n], &mut out);
-    io::write_all(STDOUT_FILENO, &out[..end]);
+    rt.write_all(&out[..end])
 }

@@ -12,7 +12,6 @@ use crate::writing::{
     FREE_ROOMS, ONCE_ROOMS, REQUEST_ROOMS, SIZE_ROOMS, SIZES, STORED_ROOMS, VAST, VAST_ROOMS,
     free_room, once_room, request_room, size, stored_room, vast,
 };
-use std::num::{wrapping_add_u64, wrapping_sub_u64};
 
 const GROUPS: u64 = 21;
 
@@ -36,8 +35,8 @@ fn size_of(group: u64) -> usize {
         10 => ONCE_ROOMS,
         11 => FREE_ROOMS * 2,
         12 => LONGEST,
-        13..=17 => rounded_numbers(wrapping_sub_u64(group, BEFORE_ROUNDED)),
-        _ => allowed_numbers(wrapping_sub_u64(group, BEFORE_ALLOWED)),
+        13..=17 => rounded_numbers(group.wrapping_sub(BEFORE_ROUNDED)),
+        _ => allowed_numbers(group.wrapping_sub(BEFORE_ALLOWED)),
     }
 }
 
@@ -61,15 +60,15 @@ fn case_of(group: u64, number: usize) -> Seen {
         10 => once_room(number),
         11 => free_room(number),
         12 => longest(number),
-        13..=17 => rounded(wrapping_sub_u64(group, BEFORE_ROUNDED), number),
-        _ => allowed(wrapping_sub_u64(group, BEFORE_ALLOWED), number),
+        13..=17 => rounded(group.wrapping_sub(BEFORE_ROUNDED), number),
+        _ => allowed(group.wrapping_sub(BEFORE_ALLOWED), number),
     }
 }
 
 // A tally with all numbers of a group; its name counts on from the groups of what is printed.
 fn with_group(tally: Tally, group: u64) -> Tally {
     let numbers = size_of(group);
-    let name = wrapping_add_u64(PRINTED, group);
+    let name = PRINTED.wrapping_add(group);
     let mut now = tally;
     let mut i = 0;
     while i < numbers {

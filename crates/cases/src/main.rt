@@ -29,7 +29,9 @@ mod tally;
 mod texts;
 mod writing;
 
+use std::io;
+
 // Every case, what is printed first.
-fn main() {
-    tally::tell(forms::every_form(groups::every()));
+fn main(rt: HostRuntime) -> io::Result<()> {
+    tally::tell(&rt, forms::every_form(groups::every()))
 }

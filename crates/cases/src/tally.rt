@@ -1,6 +1,6 @@
 // What the cases come to.
-use libc::STDOUT_FILENO;
-use std::num::wrapping_add_u64;
+use std::io;
+use std::io::Print;
 
 // What one number of a group is.
 #[derive(Clone, Copy)]
@@ -42,14 +42,14 @@ fn differing(tally: Tally, group: u64, number: u64) -> Tally {
         now.group = group;
         now.number = number;
     }
-    now.different = wrapping_add_u64(now.different, 1);
+    now.different = now.different.wrapping_add(1);
     now
 }
 
 // A tally with one number more; a number that stands for no case is not counted.
 pub(crate) fn noted(tally: Tally, group: u64, number: u64, what: Seen) -> Tally {
     let mut now = tally;
-    now.cases = wrapping_add_u64(now.cases, 1);
+    now.cases = now.cases.wrapping_add(1);
     match what {
         Seen::NoCase => tally,
         Seen::Differs => differing(now, group, number),
@@ -58,21 +58,18 @@ pub(crate) fn noted(tally: Tally, group: u64, number: u64, what: Seen) -> Tally 
 }
 
 // Where to look first.
-fn tell_first(tally: Tally) {
-    io::write_all(STDOUT_FILENO, b"the first, by group and number: ");
-    io::print_decimal(STDOUT_FILENO, tally.group);
-    io::write_all(STDOUT_FILENO, b" ");
-    io::print_decimal(STDOUT_FILENO, tally.number);
-    io::write_all(STDOUT_FILENO, b"\n");
+fn tell_first(rt: &impl Print, tally: Tally) -> io::Result<()> {
+    println!(rt;
+        "the first, by group and number: {} {}",
+        tally.group, tally.number
+    )
 }
 
 // Prints what the cases come to.
-pub(crate) fn tell(tally: Tally) {
-    io::print_decimal(STDOUT_FILENO, tally.cases);
-    io::write_all(STDOUT_FILENO, b" cases, ");
-    io::print_decimal(STDOUT_FILENO, tally.different);
-    io::write_all(STDOUT_FILENO, b" differ\n");
+pub(crate) fn tell(rt: &impl Print, tally: Tally) -> io::Result<()> {
+    println!(rt; "{} cases, {} differ", tally.cases, tally.different)?;
     if tally.different != 0 {
-        tell_first(tally);
+        tell_first(rt, tally)?;
     }
+    Ok(())
 }

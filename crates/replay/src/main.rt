@@ -6,7 +6,8 @@ mod calls;
 mod entry;
 mod list;
 
-use libc::{STDIN_FILENO, STDOUT_FILENO};
+use program_streams::read_full;
+use std::io;
 
 // The longest list that is read.
 const LIST_BYTES: usize = 786_432;
@@ -16,21 +17,20 @@ fn list_room() -> [u8; LIST_BYTES] {
     [0u8; LIST_BYTES]
 }
 
-fn main() {
+fn main(rt: HostRuntime) -> io::Result<()> {
     let mut space = list_room();
-    let n = io::read_full(STDIN_FILENO, &mut space);
+    let n = read_full(&mut rt.stdin(), &mut space)?;
     let told = list::replayed(&space[..n]);
-    io::print_decimal(STDOUT_FILENO, told.answers);
-    io::write_all(STDOUT_FILENO, b" answers, ");
-    io::print_decimal(STDOUT_FILENO, told.different);
-    io::write_all(STDOUT_FILENO, b" differ; told by the Rust ");
-    io::print_decimal(STDOUT_FILENO, told.rust);
-    io::write_all(STDOUT_FILENO, b", by the second reading ");
-    io::print_decimal(STDOUT_FILENO, told.second);
-    io::write_all(STDOUT_FILENO, b", by both ");
-    io::print_decimal(STDOUT_FILENO, told.both);
-    io::write_all(STDOUT_FILENO, b"\n");
+    print!(rt;
+        "{} answers, {} differ; told by the Rust {}",
+        told.answers, told.different, told.rust
+    )?;
+    println!(rt;
+        ", by the second reading {}, by both {}",
+        told.second, told.both
+    )?;
     if told.left != 0 {
-        io::write_all(STDOUT_FILENO, b"the list is cut short\n");
+        println!(rt; "the list is cut short")?;
     }
+    Ok(())
 }

@@ -6,7 +6,6 @@ use crate::owed;
 use crate::owed::has;
 use check::same;
 use splice::put_bytes;
-use std::num::wrapping_add_u64;
 
 // The worked example as `unit` reads it: where its policy, models and request begin, and its end.
 pub(crate) const EXAMPLE_BYTES: usize = 203;
@@ -238,14 +237,14 @@ fn is_refused(example: [u8; EXAMPLE_BYTES], call: usize, faults: usize, place: u
 // One case more.
 fn noted(told: Told, number: usize, as_owed: bool) -> Told {
     let mut now = told;
-    now.cases = wrapping_add_u64(now.cases, 1);
+    now.cases = now.cases.wrapping_add(1);
     if as_owed {
         return now;
     }
     if now.different == 0 {
         now.first = number as u64;
     }
-    now.different = wrapping_add_u64(now.different, 1);
+    now.different = now.different.wrapping_add(1);
     now
 }
 

@@ -7,19 +7,16 @@ mod calls;
 mod damage;
 mod owed;
 
-use libc::{STDIN_FILENO, STDOUT_FILENO};
+use program_streams::read_full;
+use std::io;
 
-fn main() {
+fn main(rt: HostRuntime) -> io::Result<()> {
     let mut example = [0u8; damage::EXAMPLE_BYTES];
-    io::read_full(STDIN_FILENO, &mut example);
+    read_full(&mut rt.stdin(), &mut example)?;
     let told = damage::every(example);
-    io::print_decimal(STDOUT_FILENO, told.cases);
-    io::write_all(STDOUT_FILENO, b" cases, ");
-    io::print_decimal(STDOUT_FILENO, told.different);
-    io::write_all(STDOUT_FILENO, b" differ\n");
+    println!(rt; "{} cases, {} differ", told.cases, told.different)?;
     if told.different != 0 {
-        io::write_all(STDOUT_FILENO, b"the first, by call, faults and place: ");
-        io::print_decimal(STDOUT_FILENO, told.first);
-        io::write_all(STDOUT_FILENO, b"\n");
+        println!(rt; "the first, by call, faults and place: {}", told.first)?;
     }
+    Ok(())
 }

@@ -3,20 +3,23 @@
 #![tactic(auto)]
 
 ghost use Rattle.std.specs.Prelude.{◌≡◌, ◌≤◌, length, take};
-ghost use Rattle.io.specs.Counts.{IsPrefixLen};
+ghost use Rattle.std.specs.Io.{ReadsAtMost};
 ghost use Rattle.rules.specs.Printed.{unit_text};
+ghost use Rattle.program_streams.specs.Prefix.{IsPrefixLen};
 ghost use Rattle.program_deliver.specs.Sizes.{read_bytes, unit_bytes};
 
-use libc::{STDIN_FILENO, STDOUT_FILENO};
 use program_deliver::end_of;
 use program_deliver::sizes::{INPUT_BYTES, UNIT_BYTES};
+use program_streams::read_full;
+use std::io;
+use std::io::Read;
 
-// Standard input, as far as an answer depends on it.
-fn read_input(buffer: &mut [u8]) -> usize
+// The input, as far as an answer depends on it.
+fn read_input<R: Read>(reader: &mut R, buffer: &mut [u8]) -> io::Result<usize>
     requires { read_bytes ≤ length buffer.old }
-    ensures { IsPrefixLen result buffer.new }
+    ensures { ReadsAtMost result buffer.new }
 {
-    io::read_full(STDIN_FILENO, buffer)
+    read_full(reader, buffer)
 }
 
 // What is printed for an input: the first bytes of a buffer into which every text fits.
@@ -28,10 +31,10 @@ fn answer(input: &[u8], out: &mut [u8]) -> usize
     end_of(program_report::unit_text(input, out))
 }
 
-fn main() {
+fn main(rt: HostRuntime) -> io::Result<()> {
     let mut input = [0u8; INPUT_BYTES];
-    let n = read_input(&mut input);
+    let n = read_input(&mut rt.stdin(), &mut input)?;
     let mut out = [0u8; UNIT_BYTES];
     let end = answer(&input[..n], &mut out);
-    io::write_all(STDOUT_FILENO, &out[..end]);
+    rt.write_all(&out[..end])
 }

@@ -8,8 +8,7 @@ use export_batch::{batch_checked_delivered, batch_delivered};
 // The decision on each request, without its counts. `policy` is 30, 31 or 35 bytes, `requests` 70 for each of `count`, `bank` whole records, `out` has
 // room for 65 for each. Refused: 22 for the requests' length, a count above 2^32 - 1 or the policy's length, 23 for the policy's 31st byte, then 1,
 // 2, 4. Written, at 65 times a request's place: its decision, the first 65 bytes of `volankizo_prescribe`'s answer.
-#[unsafe(no_mangle)]
-pub extern "C" fn volankizo_prescribe_batch(
+pub fn volankizo_prescribe_batch(
     policy: &[u8],
     requests: &[u8],
     count: u64,
@@ -24,8 +23,7 @@ pub extern "C" fn volankizo_prescribe_batch(
 
 // The same, once all requests are tested. Refused: 22, 23, 1, 2, 4, then 3 with the place of the first bad request. Written: the same bytes, and none
 // where a single request is refused.
-#[unsafe(no_mangle)]
-pub extern "C" fn volankizo_prescribe_batch_checked(
+pub fn volankizo_prescribe_batch_checked(
     policy: &[u8],
     requests: &[u8],
     count: u64,

@@ -1,4 +1,4 @@
-// The static library's thirty-three exported functions: here the version, decisions and what explains, checks and bounds them; in `batch` rows of
+// The library's thirty-three functions, which `volankizo_c` exports to C: here the version, decisions and what explains, checks and bounds them; in `batch` rows of
 // decisions; in `forms` a record's offset, stored and request forms, printed texts; in `live` a bank whose models are swapped, decided over and
 // edited. They speak bytes and numbers: a policy is 30 bytes, or 31 of which the last says how it rounds (0 apart, 1 once), or 35 with its latency
 // allowance in ms after that (u32, 0 none), a request 70, a bank 47 for each record.
@@ -41,8 +41,7 @@ pub use live::{
 use version::version_number;
 
 // Which version of the library this is: 1,000,000 times the major number, 1,000 times the minor one, and the patch's. Takes nothing, writes nothing.
-#[unsafe(no_mangle)]
-pub extern "C" fn volankizo_version() -> u64
+pub fn volankizo_version() -> u64
     ensures { result ≡ this_version }
 {
     version_number()
@@ -53,8 +52,7 @@ pub extern "C" fn volankizo_version() -> u64
 // 8 action u8; 9 reason u16; 11 model u32; 15 place u16; 17 cost u64; 25 utility i64; 33 counterfactual model u32; 37 its utility i64;
 // 45 evaluated u16; 47 eligible u16; 49 policy epoch u64; 57 catalogue epoch u64; from 65 on the counts, u16 each: disabled, quality,
 // ceiling, latency, capability, provider, region, budget, utility.
-#[unsafe(no_mangle)]
-pub extern "C" fn volankizo_prescribe(
+pub fn volankizo_prescribe(
     policy: &[u8],
     request: &[u8],
     bank: &[u8],
@@ -67,8 +65,7 @@ pub extern "C" fn volankizo_prescribe(
 
 // The same, after the request check. `policy` is 30, 31 or 35 bytes, `request` 70, `bank` whole records, `out` has room for 83.
 // Refused: 22, 23, 1, 2, 4, then 3. Written: the same 83 bytes.
-#[unsafe(no_mangle)]
-pub extern "C" fn volankizo_prescribe_checked(
+pub fn volankizo_prescribe_checked(
     policy: &[u8],
     request: &[u8],
     bank: &[u8],
@@ -82,8 +79,7 @@ pub extern "C" fn volankizo_prescribe_checked(
 // The utility of the first listed model with an id. `policy` is 30, 31 or 35 bytes, `request` 70, `bank` whole records, `out` has room for 8.
 // Refused: 22, 23, 1, 2, 4, then 7 where the request is stopped, the id isn't listed, or that model isn't eligible.
 // Written: 8 bytes, the utility as an i64.
-#[unsafe(no_mangle)]
-pub extern "C" fn volankizo_utility_for_model(
+pub fn volankizo_utility_for_model(
     policy: &[u8],
     request: &[u8],
     bank: &[u8],
@@ -97,16 +93,14 @@ pub extern "C" fn volankizo_utility_for_model(
 
 // The place of the first listed record with an id. `bank` is whole records, `out` has room for 2.
 // Refused: 1, 2, 4. Written: 2 bytes, the place as a u16, or 65,535 where the id is nowhere.
-#[unsafe(no_mangle)]
-pub extern "C" fn volankizo_find(bank: &[u8], id: u32, out: &mut [u8]) -> u64
+pub fn volankizo_find(bank: &[u8], id: u32, out: &mut [u8]) -> u64
     ensures { (result, out.new) ≡ find_call bank.now id out.old }
 {
     find_delivered(bank, id, out)
 }
 
 // The request check alone. `request` is 70 bytes. Refused: 22, 3. Nothing is written.
-#[unsafe(no_mangle)]
-pub extern "C" fn volankizo_check_request(request: &[u8]) -> u64
+pub fn volankizo_check_request(request: &[u8]) -> u64
     ensures { result ≡ word_of (first_fault (check_faults request.now)) }
 {
     request_word(request)
@@ -117,8 +111,7 @@ pub extern "C" fn volankizo_check_request(request: &[u8]) -> u64
 // Written: `out`, the first 65 bytes of `volankizo_prescribe`'s answer; `list`, by offset in each entry: 0 model u32; 4 place u16;
 // 6 verdict u8; 7 gate u8; 8, 16 bytes: measured, cost or quality term; 24, 16 bytes: limit, budget or risk term; 40 cost u64;
 // 48, 16 bytes: latency term; 64 utility i64.
-#[unsafe(no_mangle)]
-pub extern "C" fn volankizo_explain(
+pub fn volankizo_explain(
     policy: &[u8],
     request: &[u8],
     bank: &[u8],
@@ -133,8 +126,7 @@ pub extern "C" fn volankizo_explain(
 
 // The next eligible entry of such a list, at or after a place. `list` is any bytes, `out` has room for 8. Refused: 4.
 // Written: 8 bytes, the place as a u64, or 2^64 - 1 where no eligible entry is left.
-#[unsafe(no_mangle)]
-pub extern "C" fn volankizo_next_eligible(list: &[u8], from: u64, out: &mut [u8]) -> u64
+pub fn volankizo_next_eligible(list: &[u8], from: u64, out: &mut [u8]) -> u64
     ensures { (result, out.new) ≡ next_call list.now from out.old }
 {
     next_delivered(list, from, out)
@@ -142,8 +134,7 @@ pub extern "C" fn volankizo_next_eligible(list: &[u8], from: u64, out: &mut [u8]
 
 // Whether a policy with its bank may serve. `policy` is 30, 31 or 35 bytes, `bank` whole records.
 // Refused: 22, 23, 1, 2, 10, 11, then record by record 12, 13, 14, then 15. Nothing is written.
-#[unsafe(no_mangle)]
-pub extern "C" fn volankizo_validate(policy: &[u8], bank: &[u8]) -> u64
+pub fn volankizo_validate(policy: &[u8], bank: &[u8]) -> u64
     ensures { result ≡ word_of (first_fault (validate_faults policy.now bank.now)) }
 {
     validate_delivered(policy, bank)
@@ -151,8 +142,7 @@ pub extern "C" fn volankizo_validate(policy: &[u8], bank: &[u8]) -> u64
 
 // Puts a bank in ascending id order, equal ids in their old order, and validates it. `policy` is 30, 31 or 35 bytes, `bank` whole records.
 // Refused with the bank as it was: 22, 23, 1, 2, 16, 17; with the bank in order: 10, 11, then record by record 12, 13, 14, then 15.
-#[unsafe(no_mangle)]
-pub extern "C" fn volankizo_trust(policy: &[u8], bank: &mut [u8]) -> u64
+pub fn volankizo_trust(policy: &[u8], bank: &mut [u8]) -> u64
     ensures { (result, bank.new) ≡ trust_call policy.now bank.old }
 {
     trust_delivered(policy, bank)
@@ -162,8 +152,7 @@ pub extern "C" fn volankizo_trust(policy: &[u8], bank: &mut [u8]) -> u64
 // whole records, `out` has room for 183. Refused: 22, 23, 1, 2, 4, then 5 where the id isn't listed.
 // Written, by offset: 0 the decision, 65 bytes; 65 model u32; 69 blocked by the request u8; 70 count of levers u8; 71 passes u64; from 79
 // on four rooms of 26 bytes, in each: 0 lever u8 (0 where unused); 1 current u64; 9 boundary u64; 17 priced u8; 18 cost u64.
-#[unsafe(no_mangle)]
-pub extern "C" fn volankizo_what_would_win(
+pub fn volankizo_what_would_win(
     policy: &[u8],
     request: &[u8],
     bank: &[u8],
@@ -177,8 +166,7 @@ pub extern "C" fn volankizo_what_would_win(
 
 // For the model that was selected, how far each of its levers can move before it isn't. `policy` is 30, 31 or 35 bytes, `request` 70, `bank`
 // whole records, `out` has room for 183. Refused: 22, 23, 1, 2, 4, then 6 where the decision is a rejection. Written: the same 183 bytes.
-#[unsafe(no_mangle)]
-pub extern "C" fn volankizo_decision_margin(
+pub fn volankizo_decision_margin(
     policy: &[u8],
     request: &[u8],
     bank: &[u8],

@@ -19,8 +19,7 @@ use export_live_lookups::{live_find_delivered, live_utility_delivered};
 // The decision over the live records with its nine counts. `policy` is 30, 31 or 35 bytes, `request` 70, `bank` whole slots, `out` has room for 83.
 // Refused: 22 for the policy's or the request's length, 23 for the policy's 31st byte, then 1, 2, 34, 4. Written: 83 bytes as by
 // `volankizo_prescribe`; the place is the slot, and evaluated counts the live records.
-#[unsafe(no_mangle)]
-pub extern "C" fn volankizo_live_prescribe(
+pub fn volankizo_live_prescribe(
     policy: &[u8],
     request: &[u8],
     bank: &[u8],
@@ -33,8 +32,7 @@ pub extern "C" fn volankizo_live_prescribe(
 
 // The same, after the request check. `policy` is 30, 31 or 35 bytes, `request` 70, `bank` whole slots, `out` has room for 83.
 // Refused: 22, 23, 1, 2, 34, 4, then 3. Written: the same 83 bytes.
-#[unsafe(no_mangle)]
-pub extern "C" fn volankizo_live_prescribe_checked(
+pub fn volankizo_live_prescribe_checked(
     policy: &[u8],
     request: &[u8],
     bank: &[u8],
@@ -49,8 +47,7 @@ pub extern "C" fn volankizo_live_prescribe_checked(
 // The decision, and what every live record is told. `policy` is 30, 31 or 35 bytes, `request` 70, `bank` whole slots, `list` has room for 72 bytes
 // for each live record, or none where the request is stopped, `out` for 65. Refused: 22, 23, 1, 2, 34, then 4 for `out` or `list`.
 // Written: `out` and `list` as by `volankizo_explain`, an entry for each live record with no gap between them, its slot as place.
-#[unsafe(no_mangle)]
-pub extern "C" fn volankizo_live_explain(
+pub fn volankizo_live_explain(
     policy: &[u8],
     request: &[u8],
     bank: &[u8],
@@ -65,8 +62,7 @@ pub extern "C" fn volankizo_live_explain(
 
 // The slot of the first live record with an id. `bank` is whole slots, `out` has room for 2. Refused: 1, 2, 34, 4.
 // Written: 2 bytes, the slot as a u16, or 65,535 where no live record has the id, as none has id 0.
-#[unsafe(no_mangle)]
-pub extern "C" fn volankizo_live_find(bank: &[u8], id: u32, out: &mut [u8]) -> u64
+pub fn volankizo_live_find(bank: &[u8], id: u32, out: &mut [u8]) -> u64
     ensures { (result, out.new) ≡ live_find_call bank.now id out.old }
 {
     live_find_delivered(bank, id, out)
@@ -75,8 +71,7 @@ pub extern "C" fn volankizo_live_find(bank: &[u8], id: u32, out: &mut [u8]) -> u
 // The utility of the first live model with an id. `policy` is 30, 31 or 35 bytes, `request` 70, `bank` whole slots, `out` has room for 8.
 // Refused: 22, 23, 1, 2, 34, 4, then 7 where the request is stopped, no live record has the id, or that model isn't eligible.
 // Written: 8 bytes, the utility as an i64.
-#[unsafe(no_mangle)]
-pub extern "C" fn volankizo_live_utility_for_model(
+pub fn volankizo_live_utility_for_model(
     policy: &[u8],
     request: &[u8],
     bank: &[u8],
@@ -91,8 +86,7 @@ pub extern "C" fn volankizo_live_utility_for_model(
 // For a live model that wasn't selected, the smallest change of one lever after which it is. `policy` is 30, 31 or 35 bytes, `request` 70, `bank`
 // whole slots, `out` has room for 183. Refused: 22, 23, 1, 2, 34, 4, then 5 where no live record has the id, as none has id 0.
 // Written: 183 bytes as by `volankizo_what_would_win`.
-#[unsafe(no_mangle)]
-pub extern "C" fn volankizo_live_what_would_win(
+pub fn volankizo_live_what_would_win(
     policy: &[u8],
     request: &[u8],
     bank: &[u8],
@@ -106,8 +100,7 @@ pub extern "C" fn volankizo_live_what_would_win(
 
 // For the live model that was selected, how far each of its levers can move before it isn't. `policy` is 30, 31 or 35 bytes, `request` 70, `bank`
 // whole slots, `out` has room for 183. Refused: 22, 23, 1, 2, 34, 4, then 6 where the decision is a rejection. Written: the same 183 bytes.
-#[unsafe(no_mangle)]
-pub extern "C" fn volankizo_live_decision_margin(
+pub fn volankizo_live_decision_margin(
     policy: &[u8],
     request: &[u8],
     bank: &[u8],
@@ -122,8 +115,7 @@ pub extern "C" fn volankizo_live_decision_margin(
 // for the record's length, 22 for the policy's, 23, 1, 2, 34, 4, then 16 for id 0, 27 where the catalogue epoch is 2^64 - 1, 12 with the id where a
 // live record has it, 28 where no slot is free. Written: the record in its slot; the policy's catalogue epoch, 8 bytes from offset 8 on; `out`, 2
 // bytes, the slot as a u16. The record's fields aren't checked.
-#[unsafe(no_mangle)]
-pub extern "C" fn volankizo_live_add(
+pub fn volankizo_live_add(
     policy: &mut [u8],
     bank: &mut [u8],
     bytes: &[u8],
@@ -138,8 +130,7 @@ pub extern "C" fn volankizo_live_add(
 // Replaces the first live record with a record's id by it. `policy` is 30, 31 or 35 bytes, `bank` whole slots, `bytes` the record, 47, `out` has room
 // for 2. Refused: 22 for the record's length, 22 for the policy's, 23, 1, 2, 34, 4, then 16 for id 0, 27, 5 where no live record has the id.
 // Written: as by `volankizo_live_add`.
-#[unsafe(no_mangle)]
-pub extern "C" fn volankizo_live_replace(
+pub fn volankizo_live_replace(
     policy: &mut [u8],
     bank: &mut [u8],
     bytes: &[u8],
@@ -154,8 +145,7 @@ pub extern "C" fn volankizo_live_replace(
 // Removes the first live record with an id: its slot is free then. `policy` is 30, 31 or 35 bytes, `bank` whole slots, `out` has room for 2.
 // Refused: 22, 23, 1, 2, 34, 4, then 16 for id 0, 27, 5 where no live record has the id. Written: 47 bytes of 0 in its slot; the policy's catalogue
 // epoch; `out`, 2 bytes, the slot as a u16.
-#[unsafe(no_mangle)]
-pub extern "C" fn volankizo_live_remove(
+pub fn volankizo_live_remove(
     policy: &mut [u8],
     bank: &mut [u8],
     id: u32,
@@ -170,8 +160,7 @@ pub extern "C" fn volankizo_live_remove(
 // Closes the gaps: the live records in their order, then free slots, as many slots as before. `policy` is 30, 31 or 35 bytes, `bank` whole slots,
 // `out` has room for 2. Refused: 22, 23, 1, 2, 34, 4, then 27. Written: the bank; the policy's catalogue epoch, also where there was no gap; `out`,
 // 2 bytes, how many records are live as a u16.
-#[unsafe(no_mangle)]
-pub extern "C" fn volankizo_live_compact(policy: &mut [u8], bank: &mut [u8], out: &mut [u8]) -> u64
+pub fn volankizo_live_compact(policy: &mut [u8], bank: &mut [u8], out: &mut [u8]) -> u64
     ensures { ((result, out.new), stock policy.new bank.new) ≡ compact_call (stock policy.old bank.old)
         out.old }
 {

@@ -1,0 +1,2 @@
+-- The start of a buffer.
+pub mod Prefix

@@ -1,0 +1,54 @@
+// For the programs: what a reader gives, until a buffer is full or the input ends; and what the arguments are.
+#![tactic(auto)]
+
+ghost use Rattle.std.specs.Prelude.{◌≤◌};
+ghost use Rattle.std.specs.Io.{ReadsAtMost};
+ghost use Rattle.program_streams.specs.Prefix.{IsPrefixLen};
+
+use std::env::{Env, FillError};
+use std::io;
+use std::io::Read;
+
+// Reads until the buffer is full or the input ends: how many bytes stand at its start. On an empty buffer it reads nothing. After an error some may stand
+// there, and the buffer is as long as it was.
+pub fn read_full<R: Read>(reader: &mut R, buffer: &mut [u8]) -> io::Result<usize>
+    ensures { ReadsAtMost result buffer.new }
+{
+    let mut done = 0;
+    while done < buffer.len() {
+        let n = reader.read(&mut buffer[done..])?;
+        if n == 0 {
+            break;
+        }
+        done += n;
+    }
+    Ok(done)
+}
+
+// An argument at the start of a buffer: how many bytes it has; 0 where it is missing, or longer than the buffer.
+pub fn argument<E: Env>(environment: &E, i: usize, buffer: &mut [u8]) -> usize
+    ensures { IsPrefixLen result buffer.new }
+{
+    match environment.arg(i, buffer) {
+        Ok(n) => n,
+        Err(_) => 0,
+    }
+}
+
+// Whether there is such an argument.
+fn is_there<E: Env>(environment: &E, i: usize) -> bool {
+    let mut first = [0u8; 1];
+    !matches!(environment.arg(i, &mut first), Err(FillError::NotPresent))
+}
+
+// How many arguments there are, the program's name among them; four stand for more.
+pub fn argument_count<E: Env>(environment: &E) -> usize
+    ensures { result ≤ 4 }
+{
+    for i in 0..4 {
+        if !is_there(environment, i) {
+            return i;
+        }
+    }
+    4
+}
