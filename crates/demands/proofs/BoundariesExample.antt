@@ -6,7 +6,7 @@ use Rattle.rules.specs.{Choice.below, Choice.at_least, Choice.equal, Bytes.numbe
 use Rattle.rules.specs.{Records.input_of, Records.policy_with, Records.policy_of, Records.listed_of, Refused.length_faults, Refused.bank_faults}
 use Rattle.rules.specs.{Numbers.is_rejection}
 use Rattle.rules.specs.{Numbers.Boundary, Price.cost_under, Decide.stopped_by, Decide.decision_of, Listing.first_listed, Levers.Question, Levers.selects, Phrases.tenths_up}
-use Rattle.rules.specs.{Levers.varied, Levers.decision_at, Levers.wins, Win.what_would_win_of, Margin.decision_margin_of, declared.records.KernelInput.KernelInput}
+use Rattle.rules.specs.{Levers.decision_at, Levers.wins, Win.what_would_win_of, Margin.decision_margin_of, declared.records.KernelInput.KernelInput}
 use Rattle.rules.specs.{declared.records.PolicySnapshot.PolicySnapshot}
 use Rattle.demands.specs.{Standing.UniqueIds, Demand3.question, Demand3.of_lever, Demand3.entries_for, Demand3.Unselected, Demand3.SwitchedOn}
 use Rattle.demands.specs.{Demand3.win_passes, Demand3.margin_passes, Demand3.WinExact, Demand3.MarginExact}

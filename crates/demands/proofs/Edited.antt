@@ -1,10 +1,10 @@
 -- WHAT ANY ROW OF EDITS KEEPS, refused ones among them: the bank's length; and where each slot was live or free and no live id was there twice, that.
 -- So a bank edited from an empty one has it. Assumes nothing.
-use Rattle.rules.proofs.Kit.{ℕ, zero, suc, ◌+◌, ◌*◌, ◌/◌, ◌%◌, ◌≤◌, ◌≡◌, refl, sym, ap, subst, ◌∙◌, List, [], ◌∷◌, ◌++◌, arith, length, replicate, set, set_at}
+use Rattle.rules.proofs.Kit.{ℕ, zero, suc, ◌*◌, ◌/◌, ◌%◌, ◌≤◌, ◌≡◌, refl, sym, ap, subst, ◌∙◌, List, [], ◌∷◌, ◌++◌, arith, length, replicate, set, set_at}
 use Rattle.rules.proofs.Kit.{le-ltb, eq-eqb}
 use lib.ListN.{length-replicate}
 use Rattle.rules.specs.{Order.Each, Order.Pairs, Refused.Faults, Refused.length_faults, Refused.Answer, Refused.refused, Refused.answered, Refused.unless}
-use Rattle.rules.specs.{Trust.id_of, Trust.records_of, Trust.joined, Slots.free_slot, Slots.live_faults, Slots.live_in, Edits.slot_to_add, Edits.slot_to_replace}
+use Rattle.rules.specs.{Trust.id_of, Trust.records_of, Slots.free_slot, Slots.live_faults, Slots.live_in, Edits.slot_to_add, Edits.slot_to_replace}
 use Rattle.rules.specs.{Edits.slot_to_remove, Edits.written_at, Edits.add_bank, Edits.replace_bank, Edits.remove_bank, Edits.compact_faults, Edits.compacted}
 use Rattle.rules.specs.{Edits.compact_bank, declared.records.PolicySnapshot.PolicySnapshot}
 use Rattle.rules.proofs.{Faults.none_first, Slots.slots_joined, Slots.live-whole, Slots.clear_each, Slots.free_joined}

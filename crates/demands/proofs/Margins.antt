@@ -1,5 +1,5 @@
 -- DEMAND 3, second half: what `decision_margin` answers is exact. Assumed: unique ids; and over any list, a cost that doesn't fall where prices rise.
-use Rattle.rules.proofs.Kit.{ℕ, zero-le, ◌≡◌, refl, sym, ap, false, List, [], ◌∷◌, List-as-Memᴰ, List·Memᴰ·head, List·Memᴰ·tail, some, arith, eq-eqb, ne_eqb}
+use Rattle.rules.proofs.Kit.{ℕ, zero-le, ◌≡◌, refl, sym, ap, false, List, [], ◌∷◌, List-as-Memᴰ, List·Memᴰ·head, List·Memᴰ·not-nil, List·Memᴰ·tail, some, arith, eq-eqb, ne_eqb}
 use Rattle.rules.specs.{Limits.ppm, Limits.max_u32, Limits.max_price_scale, Choice.equal, Records.Listed, Records.listed_of, Refused.no_fault, Refused.bank_faults}
 use Rattle.rules.specs.{Numbers.is_rejection, Price.Cost, Price.cost_under, Decide.decision_by, Decide.decision_of, Listing.Reading, Listing.every_record}
 use Rattle.rules.specs.{Listing.first_listed, Halving.Lowest, Halving.Highest, Halving.search_of, Halving.search_after_far_end, Levers.wins, Margin.margin_levers}
@@ -15,6 +15,7 @@ use Rattle.demands.proofs.{Entries.Answers, Entries.answers, Entries.kept, Entri
 -- with unique ids a listed record is the first with its id
 unique_first : (ls : List Listed) (k : Listed) → UniqueIds ls → List-as-Memᴰ k ls → first_listed k.model.model_id ls ≡ some k
 unfolding first_listed equal
+unique_first [] k u m = absurd (List·Memᴰ·not-nil m)
 unique_first (l ∷ ls) k u (List·Memᴰ·head e) =
     rw (eq-eqb l.model.model_id k.model.model_id (ap (λ (i : Listed). i.model.model_id) (sym e))) (ap (λ i. some i) (sym e))
 unique_first (l ∷ ls) k u (List·Memᴰ·tail m) =

@@ -1,6 +1,6 @@
 -- What the desk is told of a price is true, and enough: a fall by the percentage that is told makes the model the choice, and where it is told that no
 -- price would do, none does. For any answer that is exact. Assumes nothing.
-use Rattle.rules.proofs.Kit.{ℕ, ◌+◌, ◌-◌, ◌*◌, ◌/◌, ◌≤◌, ◌≡◌, refl, ap, Bool, true, false, cond, List, [], ◌∷◌, ◌++◌, eqb, ltb, length, arith}
+use Rattle.rules.proofs.Kit.{ℕ, ◌-◌, ◌*◌, ◌≤◌, ◌≡◌, refl, ap, Bool, true, false, cond, List, [], ◌∷◌, ◌++◌, eqb, ltb, length, arith}
 use Rattle.rules.specs.{Limits.ppm, Choice.equal, Numbers.Entry, Numbers.Boundary, Levers.Question, Levers.wins, Phrases.tenths_up}
 use Rattle.rules.specs.{Records.Listed, Price.cost_under, Decide.request_faults, Validate.catalog_faults, Stored.stored_policy, Printed.entries_of}
 use Rattle.rules.specs.{Limits.max_program_models, Records.records_in, Refused.refuse_if, Refused.fault, Listing.first_listed, Stored.form_faults}

@@ -2,7 +2,7 @@
 -- is a list of models; its four maxima are the Rust's, and the tests that choose a way are over them. The Rust knows no allowance: every millisecond
 -- is charged.
 use Rattle.std.specs.Prelude.{ℕ, max, min, ◌-◌, ◌*◌, ◌/◌, Bool, cond, List, [], ◌∷◌, ℤ, pos, ◌-ℤ◌}
-use Rattle.std.proofs.Math.Option.{Option, none, some, bind as and_then, Option·elim as map_or_else}
+use Rattle.std.proofs.Math.Option.{Option, none, some, bind as and_then, Option-elim as map_or_else}
 use Rattle.rules.specs.Limits.{cost_scale, scaled_basis_points, max_u64}
 use Rattle.rules.specs.Utility.{or_zero, held}
 use Rattle.rules.specs.declared.records.KernelModel.{KernelModel}

@@ -1,5 +1,5 @@
 -- Rows on tag 5 (document 02, f): in a stored form, and in the programs' input. Assumes nothing.
-use Rattle.rules.proofs.Kit.{ℕ, ◌-◌, ◌^◌, refl, List, [], ◌∷◌, ◌++◌, map, length, replicate, take}
+use Rattle.rules.proofs.Kit.{ℕ, ◌-◌, ◌^◌, refl, List, [], ◌∷◌, ◌++◌, map, replicate, take}
 use Rattle.rules.specs.{Records.policy_of, Refused.fault, Refused.refused, Refused.answered, Printed.unit_text, Printed.ask_text, Words.ask_words}
 use Rattle.rules.proofs.{Opened.rules, Rows.Row, Rows.says, AllowanceRows.tag_five, Example.model_two, Example.bank}
 use Rattle.rows.proofs.{Printing.policy_field, Printing.bank_field, Printing.request_field, Printing.form, Printing.input, Printing.read}

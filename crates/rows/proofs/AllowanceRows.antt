@@ -1,6 +1,6 @@
 -- Rows on the first milliseconds free (document 02, f): the example under allowances, and a policy's bytes. The term itself, at its edges, stands in
 -- `rules/proofs/AllowanceRows`, tag 5 in `AllowanceForms`. Assumes nothing.
-use Rattle.rules.proofs.Kit.{ℕ, ◌-◌, ◌*◌, ◌^◌, refl, List, [], ◌∷◌, ◌++◌, map, none, some, ℤ, pos, length, replicate, take, false}
+use Rattle.rules.proofs.Kit.{ℕ, ◌-◌, ◌*◌, ◌^◌, refl, List, [], ◌∷◌, ◌++◌, map, none, some, ℤ, pos, replicate, take, false}
 use Rattle.rules.specs.{Bytes.bytes_of, Bytes.number_at, Records.input_of, Records.policy_of, Records.policy_in_bytes, Refused.fault, Refused.Answer}
 use Rattle.rules.specs.{Refused.refused, Refused.answered, Numbers.Decision, Numbers.Entry, Numbers.Boundary, Decide.utility_for_model_of}
 use Rattle.rules.specs.{Stored.read_policy_of}

@@ -3,7 +3,7 @@ use Rattle.rules.proofs.Kit.{ℕ, refl, List, [], ◌∷◌, ◌++◌, map, Opti
 use Rattle.rules.specs.{Records.policy_of, Records.input_of, Refused.Fault, Refused.no_fault, Refused.fault, Refused.input_fault, Refused.policy_fault}
 use Rattle.rules.specs.{Refused.model_fault, Numbers.Decision, Explain.next_eligible_of, Batch.batch_of, Batch.batch_row, Batch.batch_checked_of}
 use Rattle.rules.specs.{Batch.batch_checked_row, Validate.validate_of, Trust.trust_of, Trust.trust_bank}
-use Rattle.rules.proofs.{Opened.rules, Rows.row, Rows.Row, Rows.says, Example.model_one, Example.model_two, Example.bank, Example.policy, Example.request}
+use Rattle.rules.proofs.{Opened.rules, Rows.Row, Rows.says, Example.model_one, Example.model_two, Example.bank, Example.policy, Example.request}
 use Rattle.rules.proofs.{Example.with, Example.named, Example.uneven, Example.valueless, Example.decision, Example.choice, Example.rejected}
 
 -- the two bytes of 9,984 and so much more: 16 makes 10,000

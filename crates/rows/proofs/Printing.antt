@@ -1,5 +1,5 @@
 -- Rows on the stored form, the request form, and what the programs print. Assumes nothing.
-use Rattle.rules.proofs.Kit.{ℕ, refl, List, [], ◌∷◌, ◌++◌, none, some, pos, negsuc, length, replicate, take}
+use Rattle.rules.proofs.Kit.{ℕ, refl, List, [], ◌∷◌, ◌++◌, pos, negsuc, length, replicate, take}
 use Prim.Native.String.{String}
 use Rattle.rules.specs.{Records.policy_of, Records.input_of, Refused.Answer, Refused.refused, Refused.answered, Refused.fault}
 use Rattle.rules.specs.{Numbers.StoredPolicy, Stored.write_stored_of, Stored.write_stored_buffer, Stored.read_stored_of, Stored.read_stored_buffer}

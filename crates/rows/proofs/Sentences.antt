@@ -1,5 +1,5 @@
 -- Rows on the desk's sentences: each of them at least once. Assumes nothing.
-use Rattle.rules.proofs.Kit.{ℕ, refl, List, [], ◌∷◌, ◌++◌, none, some, pos, negsuc, replicate}
+use Rattle.rules.proofs.Kit.{ℕ, refl, List, [], ◌∷◌, ◌++◌, none, some, pos, replicate}
 use Rattle.rules.specs.{Refused.fault, Refused.input_fault, Refused.policy_fault, Refused.model_fault, Phrases.percent_up}
 use Rattle.rules.specs.{NotChosen.of_model, NotChosen.gate_words, NotChosen.key_words, FaultWords.fault_words, Text.text}
 use Rattle.rules.specs.{Words.fall_words, Words.levers_words, Words.ask_words}
