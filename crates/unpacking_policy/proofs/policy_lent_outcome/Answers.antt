@@ -31,5 +31,5 @@ returns c =
       ← c.is_longer_policy.ensures,
       c.if-not-is_longer_policy.false,
       ← c.rounding_byte.ensures,
-      le-ltb _ _ c.if-rounding_byte-gt-ONCE.false,
+      le-ltb 1 c.rounding_byte.result (omega arith),
     )
