@@ -6,7 +6,8 @@ use types.Run.{OneOf}
 use Rattle.rules.specs.{Choice.equal, Records.Listed, Records.listed, Records.listed_from, Records.listed_of, Records.model_at, Refused.answered}
 use Rattle.rules.specs.{Numbers.told_found, Listing.first_listed, Listing.place_of, declared.decision.Found.Found, declared.decision.Found.TheVariants.Refused}
 use Rattle.rules.specs.{declared.decision.Found.TheVariants.At, declared.decision.Found.TheVariants.Nowhere}
-use Rattle.rules.proofs.{decision.Found.the_type, Choices.equal-yes, Choices.equal-no}
+use Rattle.rules.specs.contracts.decision.Found.{the_type}
+use Rattle.rules.proofs.Choices.{equal-yes, equal-no}
 use Rattle.bank.proofs.Listing.{length-listed, listed_at, nowhere}
 
 module _ (bank : List ℕ) (id : ℕ) where

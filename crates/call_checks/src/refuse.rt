@@ -7,6 +7,7 @@ use rules::limits::{MAX_BPS, MAX_CATALOG_MODELS, RECORD_BYTES};
 use rules::{KernelInput, Outcome, Refusal};
 
 // Of two outcomes, one after the other, the first that refuses.
+#[tactic(auto, unfolding(rules::specs::Refused::or_else, rules::specs::Refused::told_outcome))]
 pub fn first_refused(first: Outcome, second: Outcome) -> Outcome
     ensures { told_outcome result ≡ or_else (told_outcome first) (told_outcome second) }
 {
