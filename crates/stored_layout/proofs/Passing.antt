@@ -1,5 +1,5 @@
 -- What a field that passes says of the bytes. Assumes nothing.
-use Rattle.rules.proofs.Kit.{ℕ, ◌+◌, ◌≡◌, refl, Bool, true, false, not, ◌&&◌, ◌||◌, List, [], ◌++◌, arith, not-false, eq-eqb, ne_eqb, eqb-true, not-true, eqb, ltb}
+use Rattle.rules.proofs.Kit.{◌⊎◌, ⊎_elim, ℕ, ◌+◌, ◌≡◌, refl, Bool, true, false, not, ◌&&◌, ◌||◌, List, [], ◌++◌, arith, not-false, eq-eqb, eqb, ltb}
 use Rattle.rules.proofs.Kit.{length, length-take, length-drop}
 use Rattle.rules.specs.{Limits.field_header_bytes, Refused.fault, Refused.refuse_if, Stored.fits, Stored.tag_of, Stored.body_length, Stored.body_of}
 use Rattle.rules.specs.{Stored.body_faults, Stored.field_faults, Stored.left_out}
@@ -43,15 +43,8 @@ body_length_lem s w = simp (length-take, length-drop) (omega arith)
 abbrev pub optional : ℕ → Bool
 optional tag = eqb tag 4 || eqb tag 5
 
-module _ (tag : ℕ) where
-  pub four-optional : tag ≡ 4 → optional tag ≡ true
-  four-optional e = rw e
-
-  pub five-optional : not (eqb tag 5) ≡ false → optional tag ≡ true
-  five-optional e = rw (eqb-true tag 5 (not-false (eqb tag 5) e))
-
-  pub other-due : (tag ≡ 4 → ⊥) → not (eqb tag 5) ≡ true → optional tag ≡ false
-  other-due h e = rw (ne_eqb tag 4 h, not-true (eqb tag 5) e)
+pub either-optional : (tag : ℕ) → ((tag ≡ 4 → ⊥) × (tag ≡ 5)) ⊎ (tag ≡ 4) → optional tag ≡ true
+either-optional tag e = ⊎_elim (λ w. rw w.1) (λ w. rw w) e
 
 -- One that passes is not
 pub passed_there : (tag : ℕ) (s : List ℕ) → Passed tag s → left_out tag s ≡ false
