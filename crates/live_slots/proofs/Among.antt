@@ -3,10 +3,10 @@ use Rattle.rules.proofs.Kit.{ℕ, ◌-◌, ◌/◌, ◌≤◌, ◌<◌, ◌≡�
 use Rattle.rules.specs.{Records.Listed, Records.listed_of, Records.records_in, Listing.first_listed, Trust.records_of, Slots.live_faults, Slots.live_in, Price.Cost}
 use Rattle.rules.specs.{Verdict.judged_by, Verdict.judged, Rank.eligibles, Rank.ranking, Count.counts_of, declared.decision.RejectionHistogram.RejectionHistogram}
 use Rattle.rules.specs.{declared.records.KernelInput.KernelInput, declared.records.PolicySnapshot.PolicySnapshot}
-use Rattle.rules.proofs.{Choices.below-yes, Choices.below-no, Orders.lt_or_le, Slots.live-fewer, Slots.live-full, Slots.live_many, Slots.slots_length}
+use Rattle.rules.proofs.{Choices.below-yes, Choices.below-no, Orders.lt_or_le, Slots.live-fewer, Slots.live-full, Slots.slots_length}
 use Rattle.rules.proofs.Slots.{live-few, live-clear, first_live, FreeOff, bank_off, listed_slots, placed}
 use Rattle.live_slots.specs.Among.{among_of, Among}
-use Rattle.live_slots.proofs.LeftOut.{more_off, left_out, out_many, eligibles-left, ranking-left, counts-left}
+use Rattle.live_slots.proofs.LeftOut.{more_off, out_many, eligibles-left, ranking-left, counts-left}
 
 -- ---- all of them
 

@@ -1,13 +1,13 @@
 -- SWITCHED-OFF RECORDS LEFT OUT: whoever has id 0 is switched off, so it adds one to that count and changes nothing else. Assumes nothing.
-use Rattle.rules.proofs.Kit.{ℕ, zero, suc, ◌+◌, ◌≡◌, refl, sym, ap, ◌∙◌, Bool, true, false, cond, List, [], ◌∷◌, arith, ⊎_elim, eq-eqb, eqb, length}
-use Rattle.rules.specs.{Choice.equal, Choice.below, Order.sorted_by, Records.Listed, Gates.gate_of, Gates.detail_of, Price.Cost, Price.cost_under, Count.counts_of}
-use Rattle.rules.specs.{Verdict.judge_by, Verdict.judged_by, Verdict.judged, Verdict.rejected, Verdict.verdict_costing, Rank.Candidate, Rank.candidate_of}
+use Rattle.rules.proofs.Kit.{ℕ, suc, ◌+◌, ◌≡◌, refl, sym, ap, ◌∙◌, Bool, true, false, cond, List, [], ◌∷◌, arith, ⊎_elim, eq-eqb, eqb, length}
+use Rattle.rules.specs.{Choice.equal, Order.sorted_by, Records.Listed, Gates.gate_of, Gates.detail_of, Price.Cost, Price.cost_under, Count.counts_of}
+use Rattle.rules.specs.{Verdict.judge_by, Verdict.judged_by, Verdict.judged, Verdict.rejected, Verdict.verdict_costing}
 use Rattle.rules.specs.{Rank.keep}
 use Rattle.rules.specs.{Rank.eligibles, Rank.better, Rank.ranking, Count.gate_reason, Count.counted_for, Count.raised_by, Count.counts_from, Slots.live_of}
-use Rattle.rules.specs.{Numbers.where_eligible, declared.decision.RejectionHistogram.RejectionHistogram, declared.records.KernelModel.KernelModel}
+use Rattle.rules.specs.{declared.decision.RejectionHistogram.RejectionHistogram, declared.records.KernelModel.KernelModel}
 use Rattle.rules.specs.{declared.records.KernelInput.KernelInput, declared.records.PolicySnapshot.PolicySnapshot}
 use Rattle.rules.proofs.{Choices.below-yes, Choices.equal-yes, Choices.equal-no, Orders.same_or_not, Slots.live-none, Slots.live-left, Slots.live-kept}
-use Rattle.rules.proofs.Slots.{live-fewer, FreeOff}
+use Rattle.rules.proofs.Slots.{FreeOff}
 
 -- An id as it is read of a listed record
 abbrev id_in : Listed → ℕ
