@@ -83,6 +83,7 @@ left s i n = id_or_unclear (number_after n (drop i s))
 
 pub left_all : (s : List ℕ) → 0 < length s → about_of s ≡ left s 0 0
 unfolding left about_of
+left_all [] h = absurd (omega arith)
 left_all (b ∷ bs) h = refl
 
 pub left_none : (s : List ℕ) → length s ≡ 0 → about_of s ≡ Unclear
