@@ -1,35 +1,37 @@
 -- What a refusal's word tells: it is never 0, its parts can be read off it, and that of a refusal without values is its number. Assumes nothing.
-use Rattle.rules.proofs.Kit.{ℕ, ◌/◌, ◌%◌, ◌^◌, ◌<◌, arith, ◌≡◌, refl, sym, ap, ◌∙◌, List, [], ◌∷◌}
-use denote.Enum.Declared.{tag_of}
-use types.Run.{OneOf, miss}
+use Rattle.rules.proofs.Kit.{ℕ, ◌/◌, ◌%◌, ◌^◌, ◌<◌, arith, ◌≡◌, refl, sym, ap, ◌∙◌}
 use Rattle.rules.specs.{Choice.equal, Refused.Fault, Refused.told_refusal, declared.refusal.Refusal.Refusal}
-use Rattle.rules.proofs.{refusal.Refusal.the_type, Told.refusal_from, Told.refusal_back}
+use Rattle.rules.proofs.{Told.refusal_from, Told.refusal_back}
 use Rattle.export_checks.specs.Checks.{word_at}
 use Rattle.rules.specs.declared.refusal.Refusal.TheVariants as refusal
 
--- the cases that carry none, by their order in the enum
-abbrev pub plain_tags : List ℕ
-plain_tags =
-    0 ∷ 1 ∷ 3 ∷ 4 ∷ 5 ∷ 6 ∷ 7 ∷ 9 ∷ 13 ∷ 14 ∷ 16 ∷ 17 ∷ 18 ∷ 19 ∷ 20 ∷ 21 ∷ 22 ∷ 23 ∷ 24 ∷ 25 ∷ []
+-- The cases that carry values are left out
+pub record Plain (r : Refusal) : Type 0 where
+  pub input : (x y z : ℕ) → r ≡ refusal.InputOutOfRange x y z → ⊥
+  pub policy : (x y : ℕ) → r ≡ refusal.PolicyOutOfRange x y → ⊥
+  pub duplicate : (x : ℕ) → r ≡ refusal.DuplicateModelId x → ⊥
+  pub provider : (x y : ℕ) → r ≡ refusal.InvalidProviderId x y → ⊥
+  pub model : (x y z : ℕ) → r ≡ refusal.ModelOutOfRange x y z → ⊥
+  pub flag : (x y : ℕ) → r ≡ refusal.InvalidEnabledFlag x y → ⊥
 
-pub plain_word : (place : ℕ) (r : Refusal) → OneOf plain_tags (tag_of the_type r) → word_at place (told_refusal r) ≡ (told_refusal r).number
+pub plain_word : (place : ℕ) (r : Refusal) → Plain r → word_at place (told_refusal r) ≡ (told_refusal r).number
 unfolding equal
 plain_word place refusal.UnevenBank h = refl
 plain_word place refusal.CatalogTooLarge h = refl
-plain_word place (refusal.InputOutOfRange x y z) h = absurd (miss plain_tags 2 tt h)
+plain_word place (refusal.InputOutOfRange x y z) h = absurd (h.input x y z refl)
 plain_word place refusal.NoRoom h = refl
 plain_word place refusal.UnknownModel h = refl
 plain_word place refusal.NothingSelected h = refl
 plain_word place refusal.NotEligible h = refl
 plain_word place refusal.BeyondBank h = refl
-plain_word place (refusal.PolicyOutOfRange x y) h = absurd (miss plain_tags 8 tt h)
+plain_word place (refusal.PolicyOutOfRange x y) h = absurd (h.policy x y refl)
 plain_word place refusal.EmptyCatalog h = refl
-plain_word place (refusal.DuplicateModelId x) h = absurd (miss plain_tags 10 tt h)
-plain_word place (refusal.InvalidProviderId x y) h = absurd (miss plain_tags 11 tt h)
-plain_word place (refusal.ModelOutOfRange x y z) h = absurd (miss plain_tags 12 tt h)
+plain_word place (refusal.DuplicateModelId x) h = absurd (h.duplicate x refl)
+plain_word place (refusal.InvalidProviderId x y) h = absurd (h.provider x y refl)
+plain_word place (refusal.ModelOutOfRange x y z) h = absurd (h.model x y z refl)
 plain_word place refusal.NoEnabledModels h = refl
 plain_word place refusal.ReservedModelId h = refl
-plain_word place (refusal.InvalidEnabledFlag x y) h = absurd (miss plain_tags 15 tt h)
+plain_word place (refusal.InvalidEnabledFlag x y) h = absurd (h.flag x y refl)
 plain_word place refusal.TooManyToStore h = refl
 plain_word place refusal.TooManyForProgram h = refl
 plain_word place refusal.CutShort h = refl
