@@ -1,6 +1,5 @@
 -- The slot that an edit writes: what refuses it first, what was found, and that it is one of the bank's. Assumes nothing.
-use Rattle.rules.proofs.Kit.{ℕ, ◌/◌, ◌<◌, ◌≡◌, refl, sym, ap, ◌∙◌, List, [], ◌∷◌, ◌++◌, append_assoc, Option, none, some, arith, eqb, eqb-false, length}
-use denote.Enum.Declared.{tag_of}
+use Rattle.rules.proofs.Kit.{ℕ, ◌/◌, ◌<◌, ◌≡◌, refl, sym, ap, ◌∙◌, List, [], ◌∷◌, ◌++◌, append_assoc, Option, none, some, eqb, eqb-false, length}
 use Rattle.rules.specs.{Limits.max_u64, Records.listed_of, Refused.Fault, Refused.Faults, Refused.fault, Refused.model_fault, Refused.first_fault}
 use Rattle.rules.specs.{Refused.told_refusal, Refused.told_outcome, Refused.Answer, Refused.refused, Refused.answered, Refused.unless, Numbers.told_found}
 use Rattle.rules.specs.{Listing.first_listed, Listing.place_of, Slots.live_faults, Slots.slot_with, Slots.lowest_free, Edits.offered_faults, Edits.spent_faults}
@@ -8,7 +7,7 @@ use Rattle.rules.specs.{Edits.there_faults, Edits.edit_faults, Edits.add_faults,
 use Rattle.rules.specs.{declared.refusal.Refusal.Refusal, declared.refusal.Outcome.Outcome, declared.refusal.Outcome.TheVariants.Refused}
 use Rattle.rules.specs.{declared.decision.Found.Found}
 use Rattle.rules.specs.declared.decision.Found.TheVariants as found
-use Rattle.rules.proofs.{decision.Found.the_type, Faults.none_first, Faults.none_after, Faults.test_none, Faults.append_refused, Faults.unless_refused}
+use Rattle.rules.proofs.{Faults.none_first, Faults.none_after, Faults.test_none, Faults.append_refused, Faults.unless_refused}
 use Rattle.rules.proofs.{Slots.first_live, Slots.live-whole}
 use Rattle.call_checks.proofs.Finding.{found_at}
 use Rattle.live_edits.specs.Placing.{slot_unless, slot_to_take, Writable}
@@ -16,10 +15,16 @@ use Rattle.live_edits.specs.Placing.{slot_unless, slot_to_take, Writable}
 -- ---- what is told
 
 -- A PLACE THAT WAS FOUND is where the id stands
-pub found_there : (f : Found) (o : Option ℕ) (id : ℕ) → tag_of the_type f ≡ 1 → told_found f ≡ answered o → there_faults id o ≡ model_fault 12 0 id 0 ∷ []
-found_there (found.Refused r) o id k e = absurd (omega arith)
-found_there (found.At place) o id k e = let z : o ≡ some place = cc in rw z
-found_there found.Nowhere o id k e = absurd (omega arith)
+pub found_there : (f : Found) (o : Option ℕ) (id place : ℕ) → f ≡ found.At place → told_found f ≡ answered o → there_faults id o ≡ model_fault 12 0 id 0 ∷ []
+found_there (found.Refused r) o id place k e = cc
+found_there (found.At at) o id place k e = let z : o ≡ some at = cc in rw z
+found_there found.Nowhere o id place k e = cc
+
+-- and none is found where the answer is not a place
+pub none_there : (f : Found) (o : Option ℕ) → ((place : ℕ) → f ≡ found.At place → ⊥) → told_found f ≡ answered o → o ≡ none
+none_there (found.Refused r) o k e = cc
+none_there (found.At place) o k e = absurd (k place refl)
+none_there found.Nowhere o k e = cc
 
 -- THE SLOT IS WHAT WAS FOUND, unless there is a fault
 pub slot_told : {a : Answer ℕ} {t : Option Fault} {f : Answer (Option ℕ)} (fs : Faults) (o : Option ℕ) (n : ℕ) → a ≡ slot_unless t f (fault n)
