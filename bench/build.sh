@@ -8,9 +8,9 @@ prepare() {
   [ "$(uname -sm)" = "Linux x86_64" ] || die "the static library is for x86-64 Linux; under an emulator a time says nothing of it"
   need_rust "$1"
   need_tools rustc cargo rt "${@:2}"
-  (cd "$root" && rt staticlib volankizo >/dev/null) || die "rt staticlib volankizo failed"
+  "$root/tools/build" volankizo >/dev/null || die "tools/build volankizo failed"
   export VOLANKIZO_ARCHIVE=$root/target/staticlib/libvolankizo.a
-  [ -f "$VOLANKIZO_ARCHIVE" ] || die "rt staticlib volankizo wrote no $VOLANKIZO_ARCHIVE"
+  [ -f "$VOLANKIZO_ARCHIVE" ] || die "tools/build volankizo wrote no $VOLANKIZO_ARCHIVE"
   export CARGO_TARGET_DIR=$root/target/bench
   program=$CARGO_TARGET_DIR/release/bench
 }

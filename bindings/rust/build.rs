@@ -1,4 +1,4 @@
-//! Finds libvolankizo.a and links it: in the folder that VOLANKIZO_LIB_DIR names, else where `rt staticlib` writes it.
+//! Finds libvolankizo.a and links it: in the folder that VOLANKIZO_LIB_DIR names, else where `tools/build` writes it.
 use std::env;
 use std::path::PathBuf;
 use std::process::exit;
@@ -14,7 +14,7 @@ fn main() {
     println!("cargo:rerun-if-changed={}", archive.display());
     if !archive.is_file() {
         fail(&format!(
-            "{} is missing: run `rt staticlib volankizo` first, or name the folder that holds {ARCHIVE} in VOLANKIZO_LIB_DIR",
+            "{} is missing: run `tools/build volankizo` first, or name the folder that holds {ARCHIVE} in VOLANKIZO_LIB_DIR",
             archive.display()
         ));
     }

@@ -6,14 +6,14 @@ use std::io::Write;
 use std::path::PathBuf;
 use std::process::{Command, Stdio};
 
-/// Where the programs are: in the folder that VOLANKIZO_BIN names, else where `rt check unit ask` writes them.
+/// Where the programs are: in the folder that VOLANKIZO_BIN names, else where `tools/build unit ask` writes them.
 fn program(name: &str) -> PathBuf {
     let here = PathBuf::from(env!("CARGO_MANIFEST_DIR"));
     let folder = here.join(std::env::var_os("VOLANKIZO_BIN").unwrap_or_else(|| "../target/bin".into()));
     let program = folder.join(name);
     assert!(
         program.is_file(),
-        "{} is missing: run `rt check unit ask` in the repository's root first, or name the folder of the programs in VOLANKIZO_BIN",
+        "{} is missing: run `tools/build unit ask` in the repository's root first, or name the folder of the programs in VOLANKIZO_BIN",
         program.display()
     );
     program
