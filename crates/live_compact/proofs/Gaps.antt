@@ -1,9 +1,9 @@
 -- The bank while its gaps are being closed: the live ones of its first slots at the front, all behind them as it was. Assumes nothing.
-use Rattle.rules.proofs.Kit.{ℕ, zero, suc, ◌+◌, ◌-◌, ◌*◌, ◌/◌, ◌%◌, ◌≤◌, ◌<◌, ◌≡◌, refl, sym, ap, ◌∙◌, List, [], ◌∷◌, ◌++◌, append_assoc, append-nil, arith}
+use Rattle.rules.proofs.Kit.{ℕ, ◌+◌, ◌-◌, ◌*◌, ◌/◌, ◌%◌, ◌≤◌, ◌<◌, ◌≡◌, sym, ap, ◌∙◌, List, [], ◌∷◌, ◌++◌, append_assoc, append-nil, arith}
 use Rattle.rules.proofs.Kit.{add-one, length, get_or, take, drop, replicate, length-append, length-drop, length-take-le, take-append-drop, drop_of_length-le}
 use Rattle.rules.proofs.Kit.{take_all, take_at, drop-drop, drop-append-add}
 use lib.ListN.{length-replicate, get_or-replicate}
-use Rattle.rules.specs.{Bytes.filled, Records.record_part, Trust.id_of, Trust.records_from, Trust.records_of, Trust.joined, Slots.free_slot, Slots.live_slots}
+use Rattle.rules.specs.{Bytes.filled, Records.record_part, Trust.id_of, Trust.records_from, Trust.records_of, Trust.joined, Slots.live_slots}
 use Rattle.rules.specs.{Slots.live_faults, Slots.live_in, Edits.spent_faults, Edits.closed_up, Edits.compacted, Edits.raised_of, Edits.compact_faults}
 use Rattle.rules.specs.{Edits.compact_of, Edits.compact_bank, Refused.refused, Refused.answered, Refused.unless, Refused.first_fault, Refused.told_outcome}
 use Rattle.rules.specs.{Refused.told_refusal, declared.records.PolicySnapshot.PolicySnapshot, declared.refusal.Refusal.Refusal, declared.refusal.Outcome.Outcome}
