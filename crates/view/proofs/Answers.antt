@@ -1,6 +1,6 @@
 -- ANY TWO PERMITTED ANSWERS ARE EQUAL, for each call that a user makes. Assumes nothing.
 use denote.Ref.{Bor}
-use Rattle.rules.proofs.Kit.{ℕ, List, ◌≡◌, sym, ◌∙◌, RefT}
+use Rattle.rules.proofs.Kit.{ℕ, List, ◌≡◌, sym, ◌∙◌}
 use Rattle.rules.specs.{Numbers.told_prescribed, View.view_of, declared.records.KernelModel.KernelModel, declared.records.KernelInput.KernelInput}
 use Rattle.rules.specs.{declared.records.PolicySnapshot.PolicySnapshot, declared.decision.Prescribed.Prescribed}
 use Rattle.rules.proofs.Told.{one_prescribed}
