@@ -5,15 +5,13 @@ use Rattle.explain_walk.proofs.next_eligible.Goals as goal
 
 pub returns-then-list-place-eq-ELIGIBLE : goal.returns-then-list-place-eq-ELIGIBLE
 returns-then-list-place-eq-ELIGIBLE c =
-    let t = c in
-    let l = t.loop-place in
-    sym (l.invariant ∙ next_here _ l.place t.loop-place-test.true (verdict_byte _ l.place t.loop-place-test.true ∙ c.if-list-place-eq-ELIGIBLE.true))
+    let l = c.loop-place in
+    sym (l.invariant ∙ next_here _ l.place c.loop-place-test.true (verdict_byte _ l.place c.loop-place-test.true ∙ c.if-list-place-eq-ELIGIBLE.true))
 
 pub loop-place-preserved : goal.loop-place-preserved
 loop-place-preserved c =
-    let t = c in
-    let l = t.loop-place in
-    l.invariant ∙ next-later _ l.place t.loop-place-test.true (λ e. c.if-list-place-eq-ELIGIBLE.false (sym (verdict_byte _ l.place t.loop-place-test.true) ∙ e))
+    let l = c.loop-place in
+    l.invariant ∙ next-later _ l.place c.loop-place-test.true (λ e. c.if-list-place-eq-ELIGIBLE.false (sym (verdict_byte _ l.place c.loop-place-test.true) ∙ e))
 
 pub returns : goal.returns
 returns c =

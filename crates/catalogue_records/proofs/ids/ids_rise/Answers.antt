@@ -5,15 +5,13 @@ use Rattle.catalogue_records.proofs.ids.ids_rise.Goals as goal
 
 pub returns-then-id-least : goal.returns-then-id-least
 returns-then-id-least c =
-    let m = c in
-    let l = m.loop-i in
-    sym (l.invariant.1 ∙ rises-no _ _ l.i _ (omega arith) m.id_at-id.ensures c.if-id-least.true)
+    let l = c.loop-i in
+    sym (l.invariant.1 ∙ rises-no _ _ l.i _ (omega arith) c.id_at-id.ensures c.if-id-least.true)
 
 pub loop-i-preserved : goal.loop-i-preserved
 loop-i-preserved c =
-    let m = c in
-    let l = m.loop-i in
-    (omega arith, l.invariant.1 ∙ rises-on _ _ l.i _ (omega arith) m.id_at-id.ensures c.if-id-least.false)
+    let l = c.loop-i in
+    (omega arith, l.invariant.1 ∙ rises-on _ _ l.i _ (omega arith) c.id_at-id.ensures c.if-id-least.false)
 
 pub returns : goal.returns
 returns c =

@@ -12,17 +12,15 @@ loop-i-init c =
 pub returns-then-seen-id : goal.returns-then-seen-id
 unfolding first_fault told_outcome
 returns-then-seen-id c =
-    let m = c in
-    let l = m.loop-i in
-    let a = m.args in
-    rw (← l.invariant.1, l.invariant.2 ∙ repeat-here a.bank.now a.place l.i _ _ (omega arith) (omega arith) m.id_at-seen.ensures c.if-seen-id.true)
+    let l = c.loop-i in
+    let a = c.args in
+    rw (← l.invariant.1, l.invariant.2 ∙ repeat-here a.bank.now a.place l.i _ _ (omega arith) (omega arith) c.id_at-seen.ensures c.if-seen-id.true)
 
 pub loop-i-preserved : goal.loop-i-preserved
 loop-i-preserved c =
-    let m = c in
-    let l = m.loop-i in
-    let a = m.args in
-    (omega arith, l.invariant.1, l.invariant.2 ∙ repeat-later a.bank.now a.place l.i _ _ (omega arith) (omega arith) m.id_at-seen.ensures c.if-seen-id.false)
+    let l = c.loop-i in
+    let a = c.args in
+    (omega arith, l.invariant.1, l.invariant.2 ∙ repeat-later a.bank.now a.place l.i _ _ (omega arith) (omega arith) c.id_at-seen.ensures c.if-seen-id.false)
 
 pub returns : goal.returns
 unfolding first_fault told_outcome

@@ -7,5 +7,4 @@ use Rattle.catalogue_records.proofs.ids.repeat_outcome.Goals as goal
 pub returns-then-rising : goal.returns-then-rising
 unfolding first_fault told_outcome
 returns-then-rising c =
-    let s = c in
-    rw (rising-unrepeated _ s.args.place (omega arith) (sym c.if-rising.true ∙ s.requires.known))
+    rw (rising-unrepeated _ c.args.place (omega arith) (sym c.if-rising.true ∙ c.requires.known))

@@ -12,20 +12,17 @@ returns-then-model-gt-MAX_PROVIDER_ID c =
 pub returns-then-model-gt-MAX_BPS : goal.returns-then-model-gt-MAX_BPS
 unfolding provider_faults model_faults first_fault told_outcome
 returns-then-model-gt-MAX_BPS c =
-    let b = c in
-    let h : b.args.model.provider_id ≤ max_provider_id = omega arith in
+    let h : c.args.model.provider_id ≤ max_provider_id = omega arith in
     rw (le-ltb _ _ h, lt-ltb _ _ c.if-model-gt-MAX_BPS.true)
 
 pub returns-then-model-gt-MAX_BPS-2 : goal.returns-then-model-gt-MAX_BPS-2
 unfolding provider_faults model_faults first_fault told_outcome
 returns-then-model-gt-MAX_BPS-2 c =
-    let b = c in
-    let h : b.args.model.provider_id ≤ max_provider_id = omega arith in
+    let h : c.args.model.provider_id ≤ max_provider_id = omega arith in
     rw (le-ltb _ _ h, le-ltb _ _ c.if-model-gt-MAX_BPS.false, lt-ltb _ _ c.if-model-gt-MAX_BPS-2.true)
 
 pub returns : goal.returns
 unfolding provider_faults model_faults first_fault told_outcome
 returns c =
-    let b = c in
-    let h : b.args.model.provider_id ≤ max_provider_id = omega arith in
+    let h : c.args.model.provider_id ≤ max_provider_id = omega arith in
     rw (le-ltb _ _ h, le-ltb _ _ c.if-model-gt-MAX_BPS.false, le-ltb _ _ c.if-model-gt-MAX_BPS-2.false)

@@ -8,18 +8,16 @@ use Rattle.catalogue_records.proofs.records.records_outcome.Goals as goal
 
 pub returns-in-Refused : goal.returns-in-Refused
 returns-in-Refused c =
-    let o = c in
-    let l = o.loop-i in
-    let e = o.in-Refused.is in
-    append_refused _ _ e o.record_outcome-outcome.ensures ∙ ap first_fault (sym (l.invariant.2 ∙ records-next _ l.i (omega arith)))
+    let l = c.loop-i in
+    let e = c.in-Refused.is in
+    append_refused _ _ e c.record_outcome-outcome.ensures ∙ ap first_fault (sym (l.invariant.2 ∙ records-next _ l.i (omega arith)))
 
 pub loop-i-preserved : goal.loop-i-preserved
 loop-i-preserved c =
-    let o = c in
-    let l = o.loop-i in (
+    let l = c.loop-i in (
       omega arith,
       l.invariant.1,
-      l.invariant.2 ∙ records-next _ l.i (omega arith) ∙ rw (none_told _ (not_refused o.in_default.not-Refused) o.record_outcome-outcome.ensures),
+      l.invariant.2 ∙ records-next _ l.i (omega arith) ∙ rw (none_told _ (not_refused c.in_default.not-Refused) c.record_outcome-outcome.ensures),
     )
 
 pub returns : goal.returns

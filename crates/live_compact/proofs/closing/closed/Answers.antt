@@ -10,22 +10,19 @@ loop-i-init c = (omega arith, refl, count_first _, omega arith, partly_first _)
 
 pub loop-i-preserved-then-id-eq0 : goal.loop-i-preserved-then-id-eq0
 loop-i-preserved-then-id-eq0 c =
-    let m = c in
-    let l = m.loop-i in
-    let f = free-next _ l.i (omega arith) _ l.invariant.4 (sym m.id_at-id.ensures ∙ c.if-id-eq0.true) in
+    let l = c.loop-i in
+    let f = free-next _ l.i (omega arith) _ l.invariant.4 (sym c.id_at-id.ensures ∙ c.if-id-eq0.true) in
     (omega arith, l.invariant.1, l.invariant.2 ∙ f.1, omega arith, f.0)
 
 pub loop-i-preserved : goal.loop-i-preserved
 loop-i-preserved c =
-    let m = c in
-    let e = m in
-    let l = e.loop-i in
-    let live : id_of (record_part l.bank l.i) ≡ 0 → ⊥ = λ k. e.if-id-eq0.false (e.id_at-id.ensures ∙ k) in (
+    let l = c.loop-i in
+    let live : id_of (record_part l.bank l.i) ≡ 0 → ⊥ = λ k. c.if-id-eq0.false (c.id_at-id.ensures ∙ k) in (
       omega arith,
       omega arith,
       ap (λ (k : ℕ). k + 1) l.invariant.2 ∙ live-count _ l.i (omega arith) (omega arith) _ l.invariant.4 live,
       omega arith,
-      live-next _ l.i (omega arith) (omega arith) _ l.invariant.4 live _ _ l.invariant.2 m.moved.ensures,
+      live-next _ l.i (omega arith) (omega arith) _ l.invariant.4 live _ _ l.invariant.2 c.moved.ensures,
     )
 
 pub returns : goal.returns
