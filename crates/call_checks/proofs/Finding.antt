@@ -1,12 +1,9 @@
 -- The first listed record with an id, record by record. Assumes nothing.
-use Rattle.rules.proofs.Kit.{ℕ, zero, suc, ◌+◌, ◌/◌, ◌<◌, zero-add, add-one, arith, ◌≡◌, refl, sym, ap, ◌∙◌, Bool, true, false, cond, List, [], ◌∷◌, ⊎_elim}
-use Rattle.rules.proofs.Kit.{Option, none, some, eqb-false, eqb, length, drop, drop-cons, drop-length}
-use denote.Enum.Declared.{tag_of}
-use types.Run.{OneOf}
+use Rattle.rules.proofs.Kit.{ℕ, zero, suc, ◌+◌, ◌/◌, ◌<◌, zero-add, add-one, arith, ◌≡◌, refl, sym, ap, ◌∙◌, Bool, true, false, cond, List, ◌∷◌}
+use Rattle.rules.proofs.Kit.{Option, none, some, eqb, length, drop, drop-cons, drop-length}
 use Rattle.rules.specs.{Choice.equal, Records.Listed, Records.listed, Records.listed_from, Records.listed_of, Records.model_at, Refused.answered}
 use Rattle.rules.specs.{Numbers.told_found, Listing.first_listed, Listing.place_of, declared.decision.Found.Found, declared.decision.Found.TheVariants.Refused}
 use Rattle.rules.specs.{declared.decision.Found.TheVariants.At, declared.decision.Found.TheVariants.Nowhere}
-use Rattle.rules.specs.contracts.decision.Found.{the_type}
 use Rattle.rules.proofs.Choices.{equal-yes, equal-no}
 use Rattle.bank.proofs.Listing.{length-listed, listed_at, nowhere}
 
@@ -62,9 +59,9 @@ module _ (bank : List ℕ) (id : ℕ) where
       go (some l) e = cc
 
 -- AN ANSWER WITHOUT A PLACE found none
-pub without : (f : Found) (o : Option ℕ) → OneOf (0 ∷ 2 ∷ []) (tag_of the_type f) → told_found f ≡ answered o → o ≡ none
+pub without : (f : Found) (o : Option ℕ) → ((place : ℕ) → f ≡ At place → ⊥) → told_found f ≡ answered o → o ≡ none
 without (Refused r) o k e = cc
-without (At place) o k e = absurd (⊎_elim (eqb-false 1 0 refl) (eqb-false 1 2 refl) k)
+without (At place) o k e = absurd (k place refl)
 without Nowhere o k e = cc
 
 -- and one with a place found that
