@@ -1,12 +1,10 @@
 -- The sentences of refusals as they are put together, and which of them a refusal has. Assumes nothing.
 use Rattle.rules.proofs.Kit.{ℕ, ◌≡◌, refl, sym, ap, ◌∙◌, List, [], ◌∷◌, ◌++◌, append_assoc, append-nil}
-use denote.Enum.Declared.{tag_of}
-use types.Run.{OneOf, miss}
 use Rattle.rules.specs.{Choice.equal, Text.text, Text.decimal, Phrases.sentence, Phrases.about, Phrases.comparing, NotChosen.of_model}
 use Rattle.rules.specs.{FaultWords.too_many, FaultWords.field_words, FaultWords.range_words, FaultWords.fault_words, Refused.told_refusal}
 use Rattle.rules.specs.declared.refusal.Refusal.{Refusal}
 use Rattle.rules.specs.declared.refusal.Refusal.TheVariants as refusal
-use Rattle.rules.proofs.{Choices.equal-yes, Choices.equal-no, refusal.Refusal.the_type}
+use Rattle.rules.proofs.Choices.{equal-yes, equal-no}
 use Rattle.program_refusals.specs.Parts.{provider_words, form_words}
 
 -- ---- pieces
@@ -71,36 +69,35 @@ no_form {number} a b c d e f =
 pub told_as : {r s : Refusal} → r ≡ s → (asked : ℕ) → fault_words asked (told_refusal s) ≡ fault_words asked (told_refusal r)
 told_as e asked = ap (λ (x : Refusal). fault_words asked (told_refusal x)) (sym e)
 
--- the cases that neither carry values nor speak of the catalogue, by their order in the enum
-abbrev pub other_tags : List ℕ
-other_tags = 0 ∷ 1 ∷ 3 ∷ 5 ∷ 6 ∷ 7 ∷ 14 ∷ 15 ∷ 16 ∷ 17 ∷ 18 ∷ 19 ∷ 20 ∷ 21 ∷ 22 ∷ 23 ∷ 24 ∷ 25 ∷ []
-
--- and of these by its number alone
-pub others : (asked : ℕ) (r : Refusal) → OneOf other_tags (tag_of the_type r) → form_words (told_refusal r).number ≡ fault_words asked (told_refusal r)
+-- THE OTHER CASES neither carry values nor speak of the catalogue: a sentence goes by its number alone
+pub others : (asked : ℕ) (r : Refusal) → ((x y z : ℕ) → r ≡ refusal.InputOutOfRange x y z → ⊥) → (r ≡ refusal.UnknownModel → ⊥)
+    → ((x y : ℕ) → r ≡ refusal.PolicyOutOfRange x y → ⊥) → (r ≡ refusal.EmptyCatalog → ⊥) → ((x : ℕ) → r ≡ refusal.DuplicateModelId x → ⊥)
+    → ((x y : ℕ) → r ≡ refusal.InvalidProviderId x y → ⊥) → ((x y z : ℕ) → r ≡ refusal.ModelOutOfRange x y z → ⊥)
+    → (r ≡ refusal.NoEnabledModels → ⊥) → form_words (told_refusal r).number ≡ fault_words asked (told_refusal r)
 unfolding form_words fault_words equal
-others asked refusal.UnevenBank h = refl
-others asked refusal.CatalogTooLarge h = refl
-others asked (refusal.InputOutOfRange x y z) h = absurd (miss other_tags 2 tt h)
-others asked refusal.NoRoom h = refl
-others asked refusal.UnknownModel h = absurd (miss other_tags 4 tt h)
-others asked refusal.NothingSelected h = refl
-others asked refusal.NotEligible h = refl
-others asked refusal.BeyondBank h = refl
-others asked (refusal.PolicyOutOfRange x y) h = absurd (miss other_tags 8 tt h)
-others asked refusal.EmptyCatalog h = absurd (miss other_tags 9 tt h)
-others asked (refusal.DuplicateModelId x) h = absurd (miss other_tags 10 tt h)
-others asked (refusal.InvalidProviderId x y) h = absurd (miss other_tags 11 tt h)
-others asked (refusal.ModelOutOfRange x y z) h = absurd (miss other_tags 12 tt h)
-others asked refusal.NoEnabledModels h = absurd (miss other_tags 13 tt h)
-others asked refusal.ReservedModelId h = refl
-others asked (refusal.InvalidEnabledFlag x y) h = refl
-others asked refusal.TooManyToStore h = refl
-others asked refusal.TooManyForProgram h = refl
-others asked refusal.CutShort h = refl
-others asked refusal.WrongTag h = refl
-others asked refusal.WrongLength h = refl
-others asked refusal.UnknownRounding h = refl
-others asked refusal.ZeroAllowance h = refl
-others asked refusal.EpochSpent h = refl
-others asked refusal.NoFreeSlot h = refl
-others asked refusal.SlotNotClear h = refl
+others asked refusal.UnevenBank a b d e f g h k = refl
+others asked refusal.CatalogTooLarge a b d e f g h k = refl
+others asked (refusal.InputOutOfRange x y z) a b d e f g h k = absurd (a x y z refl)
+others asked refusal.NoRoom a b d e f g h k = refl
+others asked refusal.UnknownModel a b d e f g h k = absurd (b refl)
+others asked refusal.NothingSelected a b d e f g h k = refl
+others asked refusal.NotEligible a b d e f g h k = refl
+others asked refusal.BeyondBank a b d e f g h k = refl
+others asked (refusal.PolicyOutOfRange x y) a b d e f g h k = absurd (d x y refl)
+others asked refusal.EmptyCatalog a b d e f g h k = absurd (e refl)
+others asked (refusal.DuplicateModelId x) a b d e f g h k = absurd (f x refl)
+others asked (refusal.InvalidProviderId x y) a b d e f g h k = absurd (g x y refl)
+others asked (refusal.ModelOutOfRange x y z) a b d e f g h k = absurd (h x y z refl)
+others asked refusal.NoEnabledModels a b d e f g h k = absurd (k refl)
+others asked refusal.ReservedModelId a b d e f g h k = refl
+others asked (refusal.InvalidEnabledFlag x y) a b d e f g h k = refl
+others asked refusal.TooManyToStore a b d e f g h k = refl
+others asked refusal.TooManyForProgram a b d e f g h k = refl
+others asked refusal.CutShort a b d e f g h k = refl
+others asked refusal.WrongTag a b d e f g h k = refl
+others asked refusal.WrongLength a b d e f g h k = refl
+others asked refusal.UnknownRounding a b d e f g h k = refl
+others asked refusal.ZeroAllowance a b d e f g h k = refl
+others asked refusal.EpochSpent a b d e f g h k = refl
+others asked refusal.NoFreeSlot a b d e f g h k = refl
+others asked refusal.SlotNotClear a b d e f g h k = refl
