@@ -1,6 +1,6 @@
 -- A row of requests in bytes, one more at its end, and the decisions written for it. Assumes nothing.
 use Rattle.rules.proofs.Kit.{ℕ, zero, suc, ◌+◌, ◌*◌, ◌≤◌, ◌≡◌, refl, sym, ap, ◌∙◌, List, [], ◌∷◌, ◌++◌, append-nil, append_assoc, map-append, arith}
-use Rattle.rules.proofs.Kit.{zero-add, add-zero, add-one, length, length-append}
+use Rattle.rules.proofs.Kit.{zero-add, add-zero, add-one, length}
 use Rattle.rules.specs.{Bytes.filled, Records.Listed, Numbers.Decision, Decide.decision_of, Batch.decisions_of}
 use Rattle.rules.specs.{declared.records.KernelInput.KernelInput, declared.records.PolicySnapshot.PolicySnapshot}
 use Rattle.endian_writing.specs.Put.{patched}

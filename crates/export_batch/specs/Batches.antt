@@ -1,6 +1,6 @@
 -- The exported batches, `volankizo_prescribe_batch` and `volankizo_prescribe_batch_checked`: the requests that bytes say, the refusals of a row in
 -- their order, and the word and buffer that each call leaves.
-use Rattle.std.specs.Prelude.{ℕ, zero, suc, ◌+◌, ◌*◌, ◌/◌, List, [], ◌∷◌, ◌++◌, ltb, length, take, drop}
+use Rattle.std.specs.Prelude.{ℕ, zero, suc, ◌*◌, ◌/◌, List, [], ◌∷◌, ◌++◌, ltb, length, take, drop}
 use Rattle.rules.specs.Limits.{request_bytes, max_u32}
 use Rattle.rules.specs.Records.{input_of, policy_of}
 use Rattle.rules.specs.Refused.{Faults, fault, refuse_if, size_faults, unless}
