@@ -1,0 +1,22 @@
+-- `live_kernel::prescribe` meets its contract. Assumes nothing.
+use Rattle.rules.proofs.Kit.{sym, ap, ◌∙◌}
+use Rattle.rules.specs.{Refused.refused, Refused.answered, Decide.decision_of, Live.live_prescribe_of}
+use Rattle.rules.proofs.Faults.{none_told, unless_refused}
+use Rattle.kernel_among.proofs.Lives.{slots-among, slots-answer}
+use Rattle.live_kernel.proofs.calls.prescribe.Goals as goal
+
+pub returns-in-Refused : goal.returns-in-Refused
+unfolding live_prescribe_of
+returns-in-Refused c =
+    sym (unless_refused _ refused _ c.in-Refused.is c.read_slots-slots.ensures.outcome)
+
+pub decision_among-requires : goal.decision_among-requires
+decision_among-requires c =
+    let clean = none_told _ c.in_default.is c.read_slots-slots.ensures.outcome in
+    slots-among _ _ clean c.read_slots-slots.ensures.live
+
+pub returns : goal.returns
+unfolding live_prescribe_of
+returns c =
+    let clean = none_told _ c.in_default.is c.read_slots-slots.ensures.outcome in
+    ap answered c.decision_among.ensures ∙ slots-answer _ _ clean c.read_slots-slots.ensures.live _ clean (decision_of _ _)
