@@ -3,7 +3,4 @@ pub mod Filling
 pub mod Testing
 pub mod Batches
 pub mod Alike
-pub mod Asking
-mod Handed
 pub mod Answers
-mod Passing
