@@ -55,15 +55,14 @@ need_tools() {
 # The kit's folder, and what it has for this machine.
 find_kit() {
   need_tools rt
-  kit=$(dirname "$(dirname "$(rt doc)")")
-  machine=$(uname -m)
-  kit_tools=$kit/on/$machine/toolchain/bin
+  kit=$(dirname "$(rt doc)")
+  kit_tools=$kit/toolchain/bin
   [ -x "$kit_tools/clang" ] && [ -x "$kit_tools/llvm-ar" ] || die "no clang and llvm-ar at $kit_tools"
 }
 
-# The archive that is meant, of the chosen target or that of `rt staticlib`, no older than the code that it was made from.
+# The archive that is meant, of the chosen target or that of `tools/build`, no older than the code that it was made from.
 need_archive() {
-  local make="rt staticlib volankizo" newer
+  local make="tools/build volankizo" newer
   [ -z "$chosen" ] || make="firmware/build $chosen"
   [ -f "$archive" ] || die "$archive is missing: run $make"
   newer=$(find "$root"/crates/*/src "$root/crates.txt" -type f -newer "$archive" -print -quit)
