@@ -14,6 +14,7 @@ use rules::limits::{MAX_BPS, MAX_RISK_PENALTY_MULTIPLIER_BPS, RECORD_BYTES};
 use rules::{Outcome, PolicySnapshot, Refusal};
 
 // 10 for the first limit of the policy that is too high.
+#[tactic(auto, unfolding(rules::specs::Validate::policy_faults, rules::specs::Refused::first_fault, rules::specs::Refused::told_outcome))]
 fn policy_outcome(policy: PolicySnapshot) -> Outcome
     ensures { told_outcome result ≡ first_fault (policy_faults policy) }
 {
