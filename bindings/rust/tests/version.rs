@@ -78,7 +78,7 @@ fn the_changelogs_newest_entry() {
 #[test]
 fn the_programs() {
     let source = std::fs::read_to_string(root().join("crates/ask/src/main.rt")).unwrap();
-    let (_, after) = source.split_once("STDERR_FILENO,").expect("words on standard error");
+    let (_, after) = source.split_once("rt.stderr().write_all(").expect("words on standard error");
     let (_, said) = after.split_once("b\"").expect("a byte string");
     assert!(said.starts_with(&format!("ask {}, usage: ", VERSION.trim_end())), "{said}");
 }
