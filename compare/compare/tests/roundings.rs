@@ -1,4 +1,4 @@
-//! The worked rows on rounding once: those of `costRows` in `crates/rules/proofs/OnceRows.antt` and all of `crates/rows/proofs/RoundingRows.antt`, by
+//! The worked rows on rounding once: those of `cost_rows` in `crates/rules/proofs/OnceRows.antt` and all of `crates/rows/proofs/RoundingRows.antt`, by
 //! their names and in their order. The second reading comes to the same answers by itself.
 use compare::calls::{
     Answer, ASK, CALLS, EXPLAIN, MARGIN, PRESCRIBE, READ_STORED, UNIT, UTILITY, VALIDATE, WIN, WORDS, WRITE_STORED,
