@@ -19,7 +19,8 @@ use std::io::Read;
 // The input, as far as an answer depends on it.
 fn read_input<R: Read>(reader: &mut R, buffer: &mut [u8]) -> io::Result<usize>
     requires { read_bytes ≤ length buffer.old }
-    ensures { ReadsAtMost result buffer.new }
+    ensures read { ReadsAtMost result buffer.new }
+    ensures kept { length buffer.new ≡ length buffer.old }
 {
     read_full(reader, buffer)
 }

@@ -1,7 +1,7 @@
 // For the programs: what a reader gives, until a buffer is full or the input ends; and what the arguments are.
 #![tactic(auto)]
 
-ghost use Rattle.std.specs.Prelude.{◌≤◌};
+ghost use Rattle.std.specs.Prelude.{◌≡◌, ◌≤◌, length};
 ghost use Rattle.std.specs.Io.{ReadsAtMost};
 ghost use Rattle.program_streams.specs.Prefix.{IsPrefixLen};
 
@@ -12,7 +12,8 @@ use std::io::Read;
 // Reads until the buffer is full or the input ends: how many bytes stand at its start. On an empty buffer it reads nothing. After an error some may stand
 // there, and the buffer is as long as it was.
 pub fn read_full<R: Read>(reader: &mut R, buffer: &mut [u8]) -> io::Result<usize>
-    ensures { ReadsAtMost result buffer.new }
+    ensures read { ReadsAtMost result buffer.new }
+    ensures kept { length buffer.new ≡ length buffer.old }
 {
     let mut done = 0;
     while done < buffer.len() {
