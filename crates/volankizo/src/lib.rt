@@ -52,12 +52,7 @@ pub fn volankizo_version() -> u64
 // 8 action u8; 9 reason u16; 11 model u32; 15 place u16; 17 cost u64; 25 utility i64; 33 counterfactual model u32; 37 its utility i64;
 // 45 evaluated u16; 47 eligible u16; 49 policy epoch u64; 57 catalogue epoch u64; from 65 on the counts, u16 each: disabled, quality,
 // ceiling, latency, capability, provider, region, budget, utility.
-pub fn volankizo_prescribe(
-    policy: &[u8],
-    request: &[u8],
-    bank: &[u8],
-    out: &mut [u8],
-) -> u64
+pub fn volankizo_prescribe(policy: &[u8], request: &[u8], bank: &[u8], out: &mut [u8]) -> u64
     ensures { (result, out.new) ≡ prescribe_call (lent policy.now request.now bank.now) out.old }
 {
     prescribe_delivered(policy, request, bank, out)
@@ -166,12 +161,7 @@ pub fn volankizo_what_would_win(
 
 // For the model that was selected, how far each of its levers can move before it isn't. `policy` is 30, 31 or 35 bytes, `request` 70, `bank`
 // whole records, `out` has room for 183. Refused: 22, 23, 1, 2, 4, then 6 where the decision is a rejection. Written: the same 183 bytes.
-pub fn volankizo_decision_margin(
-    policy: &[u8],
-    request: &[u8],
-    bank: &[u8],
-    out: &mut [u8],
-) -> u64
+pub fn volankizo_decision_margin(policy: &[u8], request: &[u8], bank: &[u8], out: &mut [u8]) -> u64
     ensures { (result, out.new) ≡ margin_call (lent policy.now request.now bank.now) out.old }
 {
     margin_delivered(policy, request, bank, out)

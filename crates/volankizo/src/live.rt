@@ -19,12 +19,7 @@ use export_live_lookups::{live_find_delivered, live_utility_delivered};
 // The decision over the live records with its nine counts. `policy` is 30, 31 or 35 bytes, `request` 70, `bank` whole slots, `out` has room for 83.
 // Refused: 22 for the policy's or the request's length, 23 for the policy's 31st byte, then 1, 2, 34, 4. Written: 83 bytes as by
 // `volankizo_prescribe`; the place is the slot, and evaluated counts the live records.
-pub fn volankizo_live_prescribe(
-    policy: &[u8],
-    request: &[u8],
-    bank: &[u8],
-    out: &mut [u8],
-) -> u64
+pub fn volankizo_live_prescribe(policy: &[u8], request: &[u8], bank: &[u8], out: &mut [u8]) -> u64
     ensures { (result, out.new) ≡ live_prescribe_call (lent policy.now request.now bank.now) out.old }
 {
     live_prescribe_delivered(policy, request, bank, out)
@@ -115,12 +110,7 @@ pub fn volankizo_live_decision_margin(
 // for the record's length, 22 for the policy's, 23, 1, 2, 34, 4, then 16 for id 0, 27 where the catalogue epoch is 2^64 - 1, 12 with the id where a
 // live record has it, 28 where no slot is free. Written: the record in its slot; the policy's catalogue epoch, 8 bytes from offset 8 on; `out`, 2
 // bytes, the slot as a u16. The record's fields aren't checked.
-pub fn volankizo_live_add(
-    policy: &mut [u8],
-    bank: &mut [u8],
-    bytes: &[u8],
-    out: &mut [u8],
-) -> u64
+pub fn volankizo_live_add(policy: &mut [u8], bank: &mut [u8], bytes: &[u8], out: &mut [u8]) -> u64
     ensures { ((result, out.new), stock policy.new bank.new) ≡ add_call (stock policy.old bank.old)
         bytes.now out.old }
 {
@@ -145,12 +135,7 @@ pub fn volankizo_live_replace(
 // Removes the first live record with an id: its slot is free then. `policy` is 30, 31 or 35 bytes, `bank` whole slots, `out` has room for 2.
 // Refused: 22, 23, 1, 2, 34, 4, then 16 for id 0, 27, 5 where no live record has the id. Written: 47 bytes of 0 in its slot; the policy's catalogue
 // epoch; `out`, 2 bytes, the slot as a u16.
-pub fn volankizo_live_remove(
-    policy: &mut [u8],
-    bank: &mut [u8],
-    id: u32,
-    out: &mut [u8],
-) -> u64
+pub fn volankizo_live_remove(policy: &mut [u8], bank: &mut [u8], id: u32, out: &mut [u8]) -> u64
     ensures { ((result, out.new), stock policy.new bank.new) ≡ remove_call (stock policy.old bank.old) id
         out.old }
 {
