@@ -13,7 +13,7 @@ returns-then-model-ne0 c =
 pub loop-i-preserved : goal.loop-i-preserved
 loop-i-preserved c =
     let l = c.loop-i in
-    (omega arith, l.invariant.1 ∙ off-here _ l.i _ (omega arith) c.model_at-model.ensures c.if-model-ne0.false)
+    (omega arith, l.invariant.1 ∙ off-here _ l.i _ (omega arith) c.model_at-model.ensures (omega arith))
 
 pub returns : goal.returns
 unfolding first_fault told_outcome

@@ -1,4 +1,5 @@
 -- `program_refusals::put_range` meets its contract. Assumes nothing.
+use Rattle.rules.proofs.Kit.{arith}
 use Rattle.rules.specs.Text.{text}
 use Rattle.splice.proofs.Pieces.{written, promised_as}
 use Rattle.program_refusals.proofs.{Joins.quality_range, Joins.ceiling_range}
@@ -14,4 +15,4 @@ pub returns-clause-out_after : goal.returns-clause-out_after
 unfolding text
 returns-clause-out_after c =
     let w = c.put_past_whole-2.ensures in
-    promised_as (written _ _ _ w.out_after) (ceiling_range c.if-field-eq7.false _)
+    promised_as (written _ _ _ w.out_after) (ceiling_range (omega arith) _)
