@@ -20,12 +20,6 @@ found_there (found.Refused r) o id place k e = cc
 found_there (found.At at) o id place k e = let z : o ≡ some at = cc in rw z
 found_there found.Nowhere o id place k e = cc
 
--- and none is found where the answer is not a place
-pub none_there : (f : Found) (o : Option ℕ) → ((place : ℕ) → f ≡ found.At place → ⊥) → told_found f ≡ answered o → o ≡ none
-none_there (found.Refused r) o k e = cc
-none_there (found.At place) o k e = absurd (k place refl)
-none_there found.Nowhere o k e = cc
-
 -- THE SLOT IS WHAT WAS FOUND, unless there is a fault
 pub slot_told : {a : Answer ℕ} {t : Option Fault} {f : Answer (Option ℕ)} (fs : Faults) (o : Option ℕ) (n : ℕ) → a ≡ slot_unless t f (fault n)
     → t ≡ first_fault fs → f ≡ answered o → a ≡ unless fs refused (slot_or n o)

@@ -1,6 +1,7 @@
 -- `live_edits::there_outcome` meets its contract. Assumes nothing.
 use Rattle.rules.specs.{Refused.first_fault, Refused.told_outcome, Slots.slot_with}
-use Rattle.live_edits.proofs.{Chosen.found_there, Chosen.none_there}
+use Rattle.call_checks.proofs.Finding.{without}
+use Rattle.live_edits.proofs.{Chosen.found_there}
 use Rattle.live_edits.proofs.placing.there_outcome.Goals as goal
 
 pub returns-in-At : goal.returns-in-At
@@ -13,4 +14,4 @@ pub returns : goal.returns
 unfolding slot_with first_fault told_outcome
 returns c =
     let f = c.first_live-there in
-    rw (none_there f.result _ c.in_default.not-At f.ensures)
+    rw (without f.result _ c.in_default.not-At f.ensures)
