@@ -9,6 +9,7 @@ A name of the library, of Rust code, of a goal, in a string or in a path of file
 import collections
 import os
 import re
+import subprocess
 import sys
 
 NAME = r"[^\W\d][\w'\-]*|[+][\w'\-]+"
@@ -65,7 +66,9 @@ def dashes(name, names):
 def main(argv):
     dry = "--dry" in argv
     rest = [a for a in argv if a != "--dry"]
-    kit = rest[0] if rest else "/opt/rattle/rattle"
+    # `rt doc` prints the path of a page at the top of the kit, beside its libraries
+    page = "" if rest else subprocess.run(["rt", "doc"], capture_output=True, text=True, check=True).stdout.strip()
+    kit = rest[0] if rest else os.path.join(os.path.dirname(page), "rattle")
     library = set()
     for path in texts(kit, (".antt",)):
         library.update(declared(path))

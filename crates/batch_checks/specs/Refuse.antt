@@ -1,4 +1,4 @@
--- Whether a call was refused, as a walk asks it.
+-- Whether a call was refused.
 use Rattle.std.specs.Prelude.{Bool, true, false}
 use Rattle.rules.specs.declared.refusal.Outcome.{Outcome}
 use Rattle.rules.specs.declared.refusal.Outcome.TheVariants.{Answered, Refused}
