@@ -12,21 +12,18 @@ loop-i-init c = (omega arith, omega arith, left_all _ (omega arith))
 
 pub returns-then-next-gt9 : goal.returns-then-next-gt9
 returns-then-next-gt9 c =
-    let d = c in
-    let l = d.loop-i in
-    sym (l.invariant.2 ∙ left-stops _ l.i l.id _ (omega arith) d.digit_value-next.ensures c.if-next-gt9.true)
+    let l = c.loop-i in
+    sym (l.invariant.2 ∙ left-stops _ l.i l.id _ (omega arith) c.digit_value-next.ensures c.if-next-gt9.true)
 
 pub returns-then-id-gt-MAX_ID : goal.returns-then-id-gt-MAX_ID
 returns-then-id-gt-MAX_ID c =
-    let d = c in
-    let l = d.loop-i in
-    sym (l.invariant.2 ∙ left_over _ l.i l.id _ (omega arith) d.digit_value-next.ensures (omega arith) c.if-id-gt-MAX_ID.true)
+    let l = c.loop-i in
+    sym (l.invariant.2 ∙ left_over _ l.i l.id _ (omega arith) c.digit_value-next.ensures (omega arith) c.if-id-gt-MAX_ID.true)
 
 pub loop-i-preserved : goal.loop-i-preserved
 loop-i-preserved c =
-    let d = c in
-    let l = d.loop-i in
-    (omega arith, omega arith, l.invariant.2 ∙ left-next _ l.i l.id _ (omega arith) d.digit_value-next.ensures (omega arith))
+    let l = c.loop-i in
+    (omega arith, omega arith, l.invariant.2 ∙ left-next _ l.i l.id _ (omega arith) c.digit_value-next.ensures (omega arith))
 
 pub returns : goal.returns
 returns c =

@@ -14,13 +14,10 @@ returns-then-count-ne3 c = sym (ask-others _ _ _ c.if-count-eq2.false c.if-count
 pub returns-then-same : goal.returns-then-same
 unfolding text
 returns-then-same c =
-    let a = c in
-    let t = a in
-    c.in_words.ensures ∙ ap in_words a.about-then-same.ensures
-    ∙ sym (ask-words _ _ _ t.if-count-ne3.false (t.same.ensures.0 t.if-same.true))
+    c.in_words.ensures ∙ ap in_words c.about-then-same.ensures
+    ∙ sym (ask-words _ _ _ c.if-count-ne3.false (c.same.ensures.0 c.if-same.true))
 
 pub returns : goal.returns
 unfolding text
 returns c =
-    let m = c in
-    sym (ask-unclear _ _ _ m.if-count-ne3.false (λ e. differ (sym c.if-same.false ∙ m.same.ensures.1 e)))
+    sym (ask-unclear _ _ _ c.if-count-ne3.false (λ e. differ (sym c.if-same.false ∙ c.same.ensures.1 e)))
