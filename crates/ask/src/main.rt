@@ -3,9 +3,8 @@
 #![tactic(auto)]
 
 ghost use Rattle.std.specs.Prelude.{◌≡◌, ◌≤◌, length, take};
-ghost use Rattle.std.specs.Io.{ReadsAtMost};
 ghost use Rattle.program_streams.specs.Prefix.{IsPrefixLen};
-ghost use Rattle.program_deliver.specs.Sizes.{read_bytes, words_bytes};
+ghost use Rattle.program_deliver.specs.Sizes.{words_bytes};
 ghost use Rattle.ask.specs.Answer.{answer_text};
 
 use program_deliver::end_of;
@@ -14,19 +13,9 @@ use program_question::{DeskQuestion, question_of};
 use program_streams::{argument, argument_count, read_full};
 use std::env::Env;
 use std::io;
-use std::io::Read;
 
-// The input, as far as an answer depends on it.
-fn read_input<R: Read>(reader: &mut R, buffer: &mut [u8]) -> io::Result<usize>
-    requires { read_bytes ≤ length buffer.old }
-    ensures read { ReadsAtMost result buffer.new }
-    ensures kept { length buffer.new ≡ length buffer.old }
-{
-    read_full(reader, buffer)
-}
-
-// What the program's arguments ask.
-fn asked<E: Env>(environment: &E) -> DeskQuestion {
+// What the program's arguments ask; none where that is unclear.
+fn asked<E: Env>(environment: &E) -> Option<DeskQuestion> {
     let mut id = [0u8; 4096];
     let mut form = [0u8; 4096];
     let n = argument(environment, 1, &mut id);
@@ -43,19 +32,18 @@ fn answer(question: DeskQuestion, input: &[u8], out: &mut [u8]) -> usize
     match question {
         DeskQuestion::Lines(id) => end_of(program_ask::ask_text(input, id, out)),
         DeskQuestion::Words(id) => end_of(program_words::ask_words(input, id, out)),
-        DeskQuestion::Unclear => 0,
     }
 }
 
 fn main(rt: HostRuntime) -> io::Result<()> {
-    let question = asked(&rt);
-    if let DeskQuestion::Unclear = question {
+    let Some(question) = asked(&rt) else {
         return rt.stderr().write_all(
             b"ask 0.5.0, usage: ask ID, or ask ID words, with an ID from 0 to 4294967295\n",
         );
-    }
+    };
     let mut input = [0u8; INPUT_BYTES];
-    let n = read_input(&mut rt.stdin(), &mut input)?;
+    // The input, as far as an answer depends on it.
+    let n = read_full(&mut rt.stdin(), &mut input)?;
     let mut out = [0u8; WORDS_BYTES];
     let end = answer(question, &input[..n], &mut out);
     rt.write_all(&out[..end])

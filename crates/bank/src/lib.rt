@@ -6,8 +6,8 @@ ghost use Rattle.std.specs.Prelude.{◌≡◌, ◌+◌, ◌≤◌, length, take,
 ghost use Rattle.rules.specs.Refused.{told_outcome};
 ghost use Rattle.rules.specs.Listing.{reading_of, record_of, record_start};
 
+use rules::Refusal;
 use rules::limits::{MAX_CATALOG_MODELS, RECORD_BYTES};
-use rules::{Outcome, Refusal};
 
 pub mod unchecked;
 
@@ -15,22 +15,21 @@ pub use unpacking::{input_from, model_from};
 pub use unpacking_policy::policy_from;
 
 // Whether the record at a place can be read, and if not, why: 1, 2 or 8, in this order.
-pub fn reading(bank: &[u8], place: usize) -> Outcome
+pub fn reading(bank: &[u8], place: usize) -> Result<(), Refusal>
     ensures { told_outcome result ≡ reading_of bank.now place }
 {
     let size = bank.len();
     if size % RECORD_BYTES != 0 {
-        return Outcome::Refused(Refusal::UnevenBank);
+        return Err(Refusal::UnevenBank);
     }
     let records = size / RECORD_BYTES;
     if MAX_CATALOG_MODELS < records {
-        return Outcome::Refused(Refusal::CatalogTooLarge);
+        return Err(Refusal::CatalogTooLarge);
     }
-    if place < records {
-        Outcome::Answered
-    } else {
-        Outcome::Refused(Refusal::BeyondBank)
+    if records <= place {
+        return Err(Refusal::BeyondBank);
     }
+    Ok(())
 }
 
 // A part of some bytes, as that very part of them: so many, from a position on.
@@ -49,7 +48,7 @@ pub fn record_at(bank: &[u8], place: usize) -> &[u8]
     ensures start { result.ref_ptr ≡ (bank.entry.ref_ptr.0, record_start bank.now place + bank.entry.ref_ptr.1) }
 {
     match reading(bank, place) {
-        Outcome::Answered => part(bank, RECORD_BYTES * place, RECORD_BYTES),
-        _ => part(bank, 0, 0),
+        Ok(()) => part(bank, RECORD_BYTES * place, RECORD_BYTES),
+        Err(_) => part(bank, 0, 0),
     }
 }

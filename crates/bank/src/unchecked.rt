@@ -9,7 +9,7 @@ use rules::limits::RECORD_BYTES;
 pub use unpacking::{input_of, model_of};
 pub use unpacking_policy::{policy_of, policy_with};
 
-// The model at a place of a bank.
+// The model at a place of a bank. Loops over records go by places too, not over parts of the bank: what is promised of them speaks of places.
 pub fn model_at(bank: &[u8], place: usize) -> KernelModel
     requires { record_bytes * place + record_bytes ≤ length bank.now }
     ensures { result ≡ model_at bank.now place }

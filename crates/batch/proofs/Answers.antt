@@ -6,7 +6,8 @@ use Rattle.rules.specs.{Numbers.Decision, Listing.Reading, Decide.decision_of, D
 use Rattle.rules.specs.{Batch.decisions_of, Batch.batch_row_over, Batch.batch_checked_row_over, Batch.batch_of, Batch.batch_row, Batch.batch_checked_of}
 use Rattle.rules.specs.{Batch.batch_checked_row, Live.live_batch_of, Live.live_batch_row, Live.live_batch_checked_of, Live.live_batch_checked_row}
 use Rattle.rules.specs.{declared.records.KernelInput.KernelInput, declared.records.PolicySnapshot.PolicySnapshot}
-use Rattle.rules.specs.{declared.decision.KernelDecision.KernelDecision, declared.refusal.Outcome.Outcome}
+use Rattle.rules.specs.{declared.decision.KernelDecision.KernelDecision, declared.refusal.Refusal.Refusal}
+use Rattle.std.specs.Prelude.{Result, ⊤}
 use Rattle.rules.proofs.Told.{one_answer, one_outcome, decision_from, decision_back}
 
 -- what is told of a row has a way back
@@ -17,7 +18,7 @@ rows_back (d ∷ l) = ap₂ ◌∷◌ (decision_back d) (rows_back l)
 -- Two answers and two rows that one promise permits: the answer that the rule tells, and the row that it makes of a row
 abbrev pub Same : (ℕ → Option Fault) → (List Decision → List Decision) → Type 0
 Same answer rule =
-    (row : List KernelDecision) (r s : Outcome) (l m : List KernelDecision) → told_outcome r ≡ answer (length row) → told_outcome s ≡ answer (length row)
+    (row : List KernelDecision) (r s : Result ⊤ Refusal) (l m : List KernelDecision) → told_outcome r ≡ answer (length row) → told_outcome s ≡ answer (length row)
     → map told_decision l ≡ rule (map told_decision row) → map told_decision m ≡ rule (map told_decision row) → (r ≡ s) × (l ≡ m)
 
 same : (answer : ℕ → Option Fault) (rule : List Decision → List Decision) → Same answer rule

@@ -1,7 +1,12 @@
 -- A row that is filled from its start, over any elements: before the first turn, one turn, after the last. Assumes nothing.
 use Rattle.rules.proofs.Kit.{ℕ, zero, suc, ◌+◌, ◌<◌, arith, le_of_lt, add-one, ◌≡◌, refl, ap, sym, ◌∙◌, List, [], ◌∷◌, ◌++◌, map, length, take, drop, get_or, set}
 use Rattle.rules.proofs.Kit.{length-map, List·get_d-map, take-suc, drop-cons, append_snoc, set_at, take_all, length-take-le}
-use Rattle.rules.specs.Bytes.{filled}
+use Rattle.rules.specs.{Bytes.filled, Records.Listed, Numbers.Decision, Decide.decision_of}
+use Rattle.rules.specs.{declared.records.KernelInput.KernelInput, declared.records.PolicySnapshot.PolicySnapshot}
+
+-- A request's own decision
+abbrev pub own : PolicySnapshot → List Listed → KernelInput → Decision
+own p ls q = decision_of p q ls
 
 -- After so many turns: what so many requests come to, and then what stood there
 unfoldable pub after : {A B : Type 0} → (A → B) → List A → List B → ℕ → List B

@@ -2,5 +2,4 @@
 pub mod Filling
 pub mod Testing
 pub mod Batches
-pub mod Alike
 pub mod Answers

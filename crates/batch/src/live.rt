@@ -5,8 +5,8 @@ ghost use Rattle.rules.specs.Numbers.{told_decision};
 ghost use Rattle.rules.specs.Live.{live_batch_of, live_batch_row, live_batch_checked_of, live_batch_checked_row};
 
 use crate::over::{batch_checked_over, batch_over};
-use batch_checks::live_records;
-use rules::{KernelDecision, KernelInput, Outcome, PolicySnapshot};
+use live_slots::slots::read_slots;
+use rules::{KernelDecision, KernelInput, PolicySnapshot, Refusal};
 
 // `prescribe_batch` over live records. Refused: 1, 2, 34, then 4 where the row is shorter than the requests.
 pub fn prescribe_batch(
@@ -14,11 +14,11 @@ pub fn prescribe_batch(
     bank: &[u8],
     inputs: &[KernelInput],
     row: &mut [KernelDecision],
-) -> Outcome
+) -> Result<(), Refusal>
     ensures { (told_outcome result ≡ live_batch_of bank.now inputs.now (length row.old)) × (map told_decision row.new ≡ live_batch_row policy bank.now inputs.now (map told_decision row.old)) }
 {
-    let read = live_records(bank);
-    batch_over(policy, bank, inputs, row, read)
+    let many = read_slots(bank)?;
+    batch_over(policy, bank, inputs, row, many)
 }
 
 // `prescribe_batch_checked` over live records. Refused: 1, 2, 34, 4, 3.
@@ -27,9 +27,9 @@ pub fn prescribe_batch_checked(
     bank: &[u8],
     inputs: &[KernelInput],
     row: &mut [KernelDecision],
-) -> Outcome
+) -> Result<(), Refusal>
     ensures { (told_outcome result ≡ live_batch_checked_of bank.now inputs.now (length row.old)) × (map told_decision row.new ≡ live_batch_checked_row policy bank.now inputs.now (map told_decision row.old)) }
 {
-    let read = live_records(bank);
-    batch_checked_over(policy, bank, inputs, row, read)
+    let many = read_slots(bank)?;
+    batch_checked_over(policy, bank, inputs, row, many)
 }

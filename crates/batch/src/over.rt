@@ -1,54 +1,67 @@
-// A batch over a bank that is read already, however it was. The functions here are those that touch a row of structs, each a thin one; the tests and the
-// decision are functions of their own.
-ghost use Rattle.std.specs.Prelude.{◌≡◌, map, length};
-ghost use Rattle.rules.specs.Refused.{told_outcome, first_fault};
+// A batch over a bank of which so many records are read, however it was.
+ghost use Rattle.std.specs.Prelude.{◌≡◌, ◌≤◌, ◌++◌, map, length};
+ghost use Rattle.rules.specs.Bytes.{filled};
+ghost use Rattle.rules.specs.Refused.{first_fault, room_faults, told_outcome};
 ghost use Rattle.rules.specs.Numbers.{told_decision};
-ghost use Rattle.rules.specs.Batch.{requests_faults, batch_over, batch_row_over, batch_checked_over, batch_checked_row_over};
-ghost use Rattle.batch_checks.specs.Read.{read_of, ReadAmong};
+ghost use Rattle.rules.specs.Batch.{batch_checked_over, batch_checked_row_over, batch_over, batch_row_over, decisions_of, requests_faults};
+ghost use Rattle.live_slots.specs.Among.{among_of, Among};
+ghost use Rattle.batch.specs.Read.{read_of};
 
-use batch_checks::{BankRead, batch_outcome, checked_batch_outcome, decision_over, is_refused};
+use batch_checks::room_outcome;
 use call_checks::refuse::input_outcome;
-use rules::{KernelDecision, KernelInput, Outcome, PolicySnapshot};
+use kernel_among::among::decision_among;
+use rules::{KernelDecision, KernelInput, PolicySnapshot, Refusal};
 
-// Each request's decision, in the order of the requests, at the start of the row. The rest of the row stays as it was, and all of it where the call is
-// refused: what refuses the bank, then 4 where the row is shorter than the requests.
+// Each request's decision, in the order of the requests, at the start of the row. The rest of the row stays as it was.
+fn fill(
+    policy: PolicySnapshot,
+    bank: &[u8],
+    inputs: &[KernelInput],
+    row: &mut [KernelDecision],
+    many: u16,
+)
+    requires seen { Among many bank.now }
+    requires room { length inputs.now ≤ length row.old }
+    ensures { map told_decision row.new ≡ filled (decisions_of policy (among_of many bank.now) inputs.now) (map told_decision row.old) }
+{
+    // By place: after a loop over the row's own elements beside the requests a proof knows nothing of them.
+    for (place, &input) in inputs.iter().enumerate() {
+        row[place] = decision_among(policy, bank, input, many);
+    }
+}
+
+// The first request with a field above 10,000: 3, with its place.
+fn first_bad(inputs: &[KernelInput]) -> Result<(), Refusal>
+    ensures { told_outcome result ≡ first_fault (requests_faults 0 inputs.now) }
+{
+    for (place, &input) in inputs.iter().enumerate() {
+        input_outcome(input, place)?;
+    }
+    Ok(())
+}
+
+// What refuses a checked batch of a bank that isn't refused: 4 for so much room, then 3.
+fn checked_outcome(inputs: &[KernelInput], room: usize) -> Result<(), Refusal>
+    ensures { told_outcome result ≡ first_fault (room_faults (length inputs.now) room ++ requests_faults 0 inputs.now) }
+{
+    room_outcome(inputs.len(), room)?;
+    first_bad(inputs)
+}
+
+// A batch of a bank that isn't refused. Refused: 4 where the row is shorter than the requests; the row is then as it was.
 pub(crate) fn batch_over(
     policy: PolicySnapshot,
     bank: &[u8],
     inputs: &[KernelInput],
     row: &mut [KernelDecision],
-    read: BankRead,
-) -> Outcome
-    requires { ReadAmong read bank.now }
-    ensures { (told_outcome result ≡ batch_over (read_of read bank.now) inputs.now (length row.old)) × (map told_decision row.new ≡ batch_row_over policy (read_of read bank.now) inputs.now (map told_decision row.old)) }
+    many: u16,
+) -> Result<(), Refusal>
+    requires { Among many bank.now }
+    ensures { (told_outcome result ≡ batch_over (read_of many bank.now) inputs.now (length row.old)) × (map told_decision row.new ≡ batch_row_over policy (read_of many bank.now) inputs.now (map told_decision row.old)) }
 {
-    let n = inputs.len();
-    let outcome = batch_outcome(read, n, row.len());
-    if is_refused(outcome) {
-        return outcome;
-    }
-    let mut i = 0;
-    while i < n {
-        row[i] = decision_over(policy, bank, inputs[i], read);
-        i += 1;
-    }
-    outcome
-}
-
-// The first request with a field above 10,000: 3, with its place.
-fn first_bad(inputs: &[KernelInput]) -> Outcome
-    ensures { told_outcome result ≡ first_fault (requests_faults 0 inputs.now) }
-{
-    let n = inputs.len();
-    let mut at = 0;
-    while at < n {
-        let outcome = input_outcome(inputs[at], at);
-        if is_refused(outcome) {
-            return outcome;
-        }
-        at += 1;
-    }
-    Outcome::Answered
+    room_outcome(inputs.len(), row.len())?;
+    fill(policy, bank, inputs, row, many);
+    Ok(())
 }
 
 // The same, once all requests are tested: 3 comes last.
@@ -57,14 +70,12 @@ pub(crate) fn batch_checked_over(
     bank: &[u8],
     inputs: &[KernelInput],
     row: &mut [KernelDecision],
-    read: BankRead,
-) -> Outcome
-    requires { ReadAmong read bank.now }
-    ensures { (told_outcome result ≡ batch_checked_over (read_of read bank.now) inputs.now (length row.old)) × (map told_decision row.new ≡ batch_checked_row_over policy (read_of read bank.now) inputs.now (map told_decision row.old)) }
+    many: u16,
+) -> Result<(), Refusal>
+    requires { Among many bank.now }
+    ensures { (told_outcome result ≡ batch_checked_over (read_of many bank.now) inputs.now (length row.old)) × (map told_decision row.new ≡ batch_checked_row_over policy (read_of many bank.now) inputs.now (map told_decision row.old)) }
 {
-    let bad = first_bad(inputs);
-    if is_refused(bad) {
-        return checked_batch_outcome(read, inputs.len(), row.len(), bad);
-    }
-    batch_over(policy, bank, inputs, row, read)
+    checked_outcome(inputs, row.len())?;
+    fill(policy, bank, inputs, row, many);
+    Ok(())
 }

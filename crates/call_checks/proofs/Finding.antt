@@ -1,9 +1,8 @@
 -- The first listed record with an id, record by record. Assumes nothing.
-use Rattle.rules.proofs.Kit.{ℕ, zero, suc, ◌+◌, ◌/◌, ◌<◌, zero-add, add-one, arith, ◌≡◌, refl, sym, ap, ◌∙◌, Bool, true, false, cond, List, ◌∷◌}
+use Rattle.rules.proofs.Kit.{ℕ, zero, suc, ◌+◌, ◌/◌, ◌<◌, zero-add, add-one, arith, ◌≡◌, refl, sym, ◌∙◌, Bool, true, false, cond, List, ◌∷◌}
 use Rattle.rules.proofs.Kit.{Option, none, some, eqb, length, drop, drop-cons, drop-length}
-use Rattle.rules.specs.{Choice.equal, Records.Listed, Records.listed, Records.listed_from, Records.listed_of, Records.model_at, Refused.answered}
-use Rattle.rules.specs.{Numbers.told_found, Listing.first_listed, Listing.place_of, declared.decision.Found.Found, declared.decision.Found.TheVariants.Refused}
-use Rattle.rules.specs.{declared.decision.Found.TheVariants.At, declared.decision.Found.TheVariants.Nowhere}
+use Rattle.rules.specs.{Choice.equal, Records.Listed, Records.listed, Records.listed_from, Records.listed_of, Records.model_at}
+use Rattle.rules.specs.{Listing.first_listed, Listing.place_of}
 use Rattle.rules.proofs.Choices.{equal-yes, equal-no}
 use Rattle.bank.proofs.Listing.{length-listed, listed_at, nowhere}
 
@@ -57,13 +56,3 @@ module _ (bank : List ℕ) (id : ℕ) where
       go : (o : Option Listed) → place_of o ≡ none → o ≡ none
       go none e = refl
       go (some l) e = cc
-
--- AN ANSWER WITHOUT A PLACE found none
-pub without : (f : Found) (o : Option ℕ) → ((place : ℕ) → f ≡ At place → ⊥) → told_found f ≡ answered o → o ≡ none
-without (Refused r) o k e = cc
-without (At place) o k e = absurd (k place refl)
-without Nowhere o k e = cc
-
--- and one with a place found that
-pub with_place : {f : Found} {place : ℕ} {o : Option ℕ} → f ≡ At place → told_found f ≡ answered o → o ≡ some place
-with_place e h = let k = sym (ap told_found e) ∙ h in cc

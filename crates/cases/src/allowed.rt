@@ -1,18 +1,19 @@
-// What can be wrong with the field that says a policy's allowance, in the example with one, alone or after tag 4: the policy rounds apart (0) or
-// once (1).
+// What can be wrong with the field that says a policy's allowance, in the example with one, alone or after tag 4: the policy rounds apart or
+// once.
 ghost use Rattle.std.specs.Prelude.{◌+◌, ◌≤◌, length};
 
 use crate::answers::{CALLS, UNIT};
 use crate::banks::{SPACE as LONG_SPACE, put_long, put_part};
 use crate::damage::NO_CASE;
 use crate::example::{AFTER_BANK, BANK, END};
-use crate::free::{ALL_FREE, ALLOWANCE, FIELD, field_place, put_allowance, put_free};
+use crate::free::{ALL_FREE, ALLOWANCE, FIELD, field_place, put_allowance, put_free, rounding_of};
 use crate::once::put_rounding;
 use crate::owing::{Owed, READERS, STORED, answered, refused, seen};
 use crate::refused::refuses;
 use crate::tally::{Seen, judged};
 use endian::u32_at;
 use endian_writing::{put16, put32};
+use rules::Rounding;
 
 // Room for every input that is made here, but for the longest.
 const SPACE: usize = 600;
@@ -21,7 +22,7 @@ const SPACE: usize = 600;
 const REQUEST: usize = 73;
 
 // Where a reader's whole form ends.
-fn whole_for(reader: usize, rounding: u8) -> usize
+fn whole_for(reader: usize, rounding: Rounding) -> usize
     ensures { (137 ≤ result) × (result ≤ 214) }
 {
     let request = field_place(rounding) + FIELD;
@@ -39,11 +40,16 @@ fn cut_before(reader: usize, end: usize) -> Owed
     if reader != STORED {
         return refused(end, 21);
     }
-    answered(end, (end != AFTER_BANK) as u8, 0)
+    let rounding = if end == AFTER_BANK {
+        Rounding::Apart
+    } else {
+        Rounding::Once
+    };
+    answered(end, rounding, 0)
 }
 
 // Where a field is due there is no byte: 21; anywhere else a header or a body is cut: 20.
-fn cut_within(rounding: u8, end: usize) -> Owed
+fn cut_within(rounding: Rounding, end: usize) -> Owed
     requires { end ≤ 214 }
     ensures { result.end ≤ 600 }
 {
@@ -54,7 +60,7 @@ fn cut_within(rounding: u8, end: usize) -> Owed
 }
 
 // Kind 1: cut before each byte, and whole.
-fn cut(reader: usize, rounding: u8, end: usize) -> Owed
+fn cut(reader: usize, rounding: Rounding, end: usize) -> Owed
     requires { end ≤ 214 }
     ensures { result.end ≤ 600 }
 {
@@ -73,8 +79,8 @@ fn cut(reader: usize, rounding: u8, end: usize) -> Owed
 
 // Another tag in its place: 4 has a wrong length, or is there already; 3 is the request's of the programs, with a wrong length; any other is one
 // too many.
-fn tag_answer(reader: usize, rounding: u8, value: u8) -> u8 {
-    if value == 4 && rounding == 0 {
+fn tag_answer(reader: usize, rounding: Rounding, value: u8) -> u8 {
+    if value == 4 && rounding == Rounding::Apart {
         return 22;
     }
     if value == 3 && reader != STORED {
@@ -85,7 +91,7 @@ fn tag_answer(reader: usize, rounding: u8, value: u8) -> u8 {
 
 // Another allowance: 0 is 25. The unit's margin tells how far the latency may go, and so does the desk as long as some of it is charged; they are
 // asked about the example's allowance alone.
-fn body_answer(out: &[u8], reader: usize, rounding: u8) -> Owed
+fn body_answer(out: &[u8], reader: usize, rounding: Rounding) -> Owed
     requires { 600 ≤ length out.now }
     ensures { result.end ≤ 600 }
 {
@@ -101,7 +107,7 @@ fn body_answer(out: &[u8], reader: usize, rounding: u8) -> Owed
 }
 
 // Kind 2: each byte of the field, at every value.
-fn byte(out: &mut [u8], reader: usize, rounding: u8, number: usize) -> Owed
+fn byte(out: &mut [u8], reader: usize, rounding: Rounding, number: usize) -> Owed
     requires { 600 ≤ length out.old }
     ensures { result.end ≤ 600 }
 {
@@ -122,7 +128,7 @@ fn byte(out: &mut [u8], reader: usize, rounding: u8, number: usize) -> Owed
 }
 
 // Kind 3: one byte after the end, of every value; another byte 5 too is one too many.
-fn tail(out: &mut [u8], reader: usize, rounding: u8, number: usize) -> Owed
+fn tail(out: &mut [u8], reader: usize, rounding: Rounding, number: usize) -> Owed
     requires { 600 ≤ length out.old }
     ensures { result.end ≤ 600 }
 {
@@ -138,7 +144,7 @@ const HARD_RISK: usize = 19;
 
 // What is changed beside the field's body: 2 and 3, its length; 5, that of the models; 6, that of the policy; 7 and 10, the policy's hard risk limit;
 // 8 and 9, tag 4's body and its length, where there is one; 11, the request's risk. For the others the policy's epoch is set to itself.
-fn spoil(out: &mut [u8], rounding: u8, which: usize)
+fn spoil(out: &mut [u8], rounding: Rounding, which: usize)
     requires { 600 ≤ length out.old }
 {
     let place = field_place(rounding);
@@ -156,7 +162,7 @@ fn spoil(out: &mut [u8], rounding: u8, which: usize)
 }
 
 // The field's body: 0 up to 9.
-fn put_body(out: &mut [u8], rounding: u8, which: usize)
+fn put_body(out: &mut [u8], rounding: Rounding, which: usize)
     requires { 600 ≤ length out.old }
 {
     let allowance = if which <= 9 { 0 } else { ALLOWANCE };
@@ -164,12 +170,13 @@ fn put_body(out: &mut [u8], rounding: u8, which: usize)
 }
 
 // 8 and 9 where there is a tag 4 alone, 10 and 11 of the programs alone: the stored form isn't read so far.
-fn late_answer(reader: usize, rounding: u8, which: usize) -> u8 {
+fn late_answer(reader: usize, rounding: Rounding, which: usize) -> u8 {
     if which <= 9 {
-        if rounding == 0 {
-            return NO_CASE;
-        }
-        return if which == 8 { 23 } else { 22 };
+        return match rounding {
+            Rounding::Apart => NO_CASE,
+            Rounding::Once if which == 8 => 23,
+            Rounding::Once => 22,
+        };
     }
     if reader == STORED {
         return NO_CASE;
@@ -178,7 +185,7 @@ fn late_answer(reader: usize, rounding: u8, which: usize) -> u8 {
 }
 
 // 0 and 1: nothing after the field, and a byte too many after the end. 3: no body there. 4: a body that is cut.
-fn other_answer(reader: usize, rounding: u8, which: usize) -> Owed
+fn other_answer(reader: usize, rounding: Rounding, which: usize) -> Owed
     ensures { result.end ≤ 600 }
 {
     let place = field_place(rounding);
@@ -195,7 +202,7 @@ fn other_answer(reader: usize, rounding: u8, which: usize) -> Owed
 }
 
 // Kind 4: two faults, of which the first one counts; and an allowance with a limit passed.
-fn other(out: &mut [u8], reader: usize, rounding: u8, which: usize) -> Owed
+fn other(out: &mut [u8], reader: usize, rounding: Rounding, which: usize) -> Owed
     requires { 600 ≤ length out.old }
     ensures { result.end ≤ 600 }
 {
@@ -222,7 +229,7 @@ pub(crate) fn allowed_numbers(kind: u64) -> usize {
 }
 
 // Puts the input of a number of a kind, and says what a reader owes.
-fn put_damaged(out: &mut [u8], reader: usize, rounding: u8, kind: u64, number: usize) -> Owed
+fn put_damaged(out: &mut [u8], reader: usize, rounding: Rounding, kind: u64, number: usize) -> Owed
     requires { 600 ≤ length out.old }
     ensures { result.end ≤ 600 }
 {
@@ -239,7 +246,7 @@ fn put_damaged(out: &mut [u8], reader: usize, rounding: u8, kind: u64, number: u
 pub(crate) fn allowed(kind: u64, number: usize) -> Seen {
     let reader = number % READERS;
     let which = number / READERS;
-    let rounding = (which % 2) as u8;
+    let rounding = rounding_of(which);
     let mut input = [0u8; SPACE];
     let owed = put_damaged(&mut input, reader, rounding, kind, which / 2);
     seen(reader, &input, owed)

@@ -1,15 +1,14 @@
 // Whether a call prints what it must.
-ghost use Rattle.std.specs.Prelude.{◌≤◌, length};
+ghost use Rattle.std.specs.Prelude.{◌≤◌};
 
-use crate::marks::{MARK, REFUSED, settled};
+use crate::marks::{MARK, settled};
 use endian::u64_at;
 use program_ask::ask_text;
 use program_report::unit_text;
 use program_words::ask_words;
-use rules::Written;
 use volankizo::{volankizo_ask_text, volankizo_ask_words, volankizo_unit_text};
 
-// The printing calls, by their numbers; the third is `ask_words`.
+// The printing calls, by their numbers; the third is `ask_words`. By number: a case's number says which.
 pub(crate) const CALLS: usize = 3;
 
 pub(crate) const UNIT: u8 = 0;
@@ -29,30 +28,14 @@ const LIBRARY_ROOM: usize = 1_308;
 // Stands for three rooms: more than enough, one byte less than enough, none.
 pub(crate) const EACH_ROOM: usize = 1_301;
 
-// An answer as one number: the size written, or beyond every size its refusal.
-fn told(answer: Written) -> usize {
-    match answer {
-        Written::Bytes(n) => n,
-        Written::Refused(refusal) => REFUSED + refusal.number() as usize,
-    }
-}
-
 // What a call prints of an input, asked about an id where it asks about one.
-fn print(call: u8, input: &[u8], id: u32, out: &mut [u8]) -> usize {
-    if call == UNIT {
-        return told(unit_text(input, out));
-    }
-    if call == ASK {
-        return told(ask_text(input, id, out));
-    }
-    told(ask_words(input, id, out))
-}
-
-// The call has the first bytes of the buffer alone.
-fn print_into(call: u8, input: &[u8], id: u32, out: &mut [u8], room: usize) -> usize
-    requires { room ≤ length out.old }
-{
-    print(call, input, id, &mut out[0..room])
+fn print(call: u8, input: &[u8], id: u32, out: &mut [u8]) -> Result<usize, u8> {
+    let printed = match call {
+        UNIT => unit_text(input, out),
+        ASK => ask_text(input, id, out),
+        _ => ask_words(input, id, out),
+    };
+    printed.map_err(|refusal| refusal.number())
 }
 
 // Whether a call prints a text into so much room; where that is too little, that it refuses and writes nothing.
@@ -60,19 +43,18 @@ fn answers_in(call: u8, input: &[u8], id: u32, text: &[u8], room: usize) -> bool
     requires { room ≤ 1300 }
 {
     let mut out = [MARK; ROOM];
-    let size = print_into(call, input, id, &mut out, room);
-    settled(size, 0, &out, text, room)
+    // The call has the first bytes of the buffer alone.
+    let told = print(call, input, id, &mut out[..room]);
+    settled(told, 0, &out, text, room)
 }
 
 // The word of the library's function for a call.
 fn library_word(call: u8, input: &[u8], id: u32, out: &mut [u8]) -> u64 {
-    if call == UNIT {
-        return volankizo_unit_text(input, out);
+    match call {
+        UNIT => volankizo_unit_text(input, out),
+        ASK => volankizo_ask_text(input, id, out),
+        _ => volankizo_ask_words(input, id, out),
     }
-    if call == ASK {
-        return volankizo_ask_text(input, id, out);
-    }
-    volankizo_ask_words(input, id, out)
 }
 
 // Whether the library hands the same text over, with its length before it.
@@ -82,28 +64,18 @@ fn library_answers(call: u8, input: &[u8], id: u32, text: &[u8]) -> bool {
         return false;
     }
     let size = u64_at(&out, 0) as usize;
-    settled(size, 0, &out[LENGTH_BYTES..LIBRARY_ROOM], text, ROOM)
+    settled(Ok(size), 0, &out[LENGTH_BYTES..], text, ROOM)
 }
 
 // Whether a call prints a text, byte for byte, into each of three rooms, and the library hands it over.
 pub(crate) fn answers_each(call: u8, input: &[u8], id: u32, text: &[u8]) -> bool {
     let size = text.len();
-    if size == 0 {
-        return false;
-    }
-    if ROOM < size {
-        return false;
-    }
-    if !answers_in(call, input, id, text, ROOM) {
-        return false;
-    }
-    if !answers_in(call, input, id, text, size - 1) {
-        return false;
-    }
-    if !answers_in(call, input, id, text, 0) {
-        return false;
-    }
-    library_answers(call, input, id, text)
+    0 < size
+        && size <= ROOM
+        && answers_in(call, input, id, text, ROOM)
+        && answers_in(call, input, id, text, size - 1)
+        && answers_in(call, input, id, text, 0)
+        && library_answers(call, input, id, text)
 }
 
 // The same, or into so much room alone.

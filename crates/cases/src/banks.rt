@@ -2,6 +2,7 @@
 ghost use Rattle.std.specs.Prelude.{◌≡◌, ◌+◌, ◌-◌, ◌*◌, ◌<◌, ◌≤◌, length};
 
 use crate::example::{AFTER_BANK, BANK, END, MODELS, example};
+use endian_writing::put16;
 use splice::put_bytes;
 
 // Room for every input that is made here.
@@ -47,10 +48,8 @@ pub(crate) enum Models {
 fn put_another(out: &mut [u8], at: usize, id: usize, enabled: u8)
     requires { at + 47 ≤ length out.old }
 {
-    let high = id / 256;
     let mut input = example();
-    input[SECOND] = (id % 256) as u8;
-    input[SECOND + 1] = (high % 256) as u8;
+    put16(&mut input, SECOND, (id % 65_536) as u16);
     input[SECOND + 10] = enabled;
     put_changed(out, at, input, SECOND, AFTER_BANK);
 }
@@ -65,7 +64,7 @@ fn put_mixed(out: &mut [u8], at: usize, which: usize, other: usize)
     }
     let is_second = which == 1;
     let id = if is_second { 2 } else { other };
-    put_another(out, at, id, is_second as u8);
+    put_another(out, at, id, u8::from(is_second));
 }
 
 // The model at a place of a bank of so many.
@@ -85,10 +84,8 @@ fn put_one(out: &mut [u8], models: Models, n: usize, place: usize)
 fn put_models(out: &mut [u8], models: Models, n: usize)
     requires { (n ≤ 1400) × (36 + 47 * n ≤ length out.old) }
 {
-    let mut place = 0;
-    while place < n {
+    for place in 0..n {
         put_one(out, models, n, place);
-        place += 1;
     }
 }
 
@@ -96,10 +93,8 @@ fn put_models(out: &mut [u8], models: Models, n: usize)
 fn put_head(out: &mut [u8], size: usize)
     requires { 36 ≤ length out.old }
 {
-    let high = size / 256;
     let mut input = example();
-    input[BANK + 1] = (size % 256) as u8;
-    input[BANK + 2] = (high % 256) as u8;
+    put16(&mut input, BANK + 1, (size % 65_536) as u16);
     put_changed(out, 0, input, 0, MODELS);
 }
 

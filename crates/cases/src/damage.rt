@@ -6,6 +6,7 @@ use crate::banks::put_part;
 use crate::example::{AFTER_BANK, BANK, END};
 
 // Where a reader's bytes end, and the number that it owes: 0 for the example's own answer.
+// By number: as in the documents' tables.
 #[derive(Clone, Copy)]
 pub(crate) struct Case {
     pub end: usize,
@@ -31,13 +32,11 @@ fn cut(start: usize, whole: usize, end: usize) -> Case
     requires { (start ≤ whole) × (whole ≤ 203) }
     ensures { (start ≤ result.end) × (result.end ≤ 66000) }
 {
-    if start <= end {
-        if end <= whole {
-            return Case {
-                end,
-                number: cut_answer(end, whole),
-            };
-        }
+    if start <= end && end <= whole {
+        return Case {
+            end,
+            number: cut_answer(end, whole),
+        };
     }
     Case {
         end: start,

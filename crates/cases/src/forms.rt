@@ -67,13 +67,10 @@ fn case_of(group: u64, number: usize) -> Seen {
 
 // A tally with all numbers of a group; its name counts on from the groups of what is printed.
 fn with_group(tally: Tally, group: u64) -> Tally {
-    let numbers = size_of(group);
     let name = PRINTED.wrapping_add(group);
     let mut now = tally;
-    let mut i = 0;
-    while i < numbers {
+    for i in 0..size_of(group) {
         now = noted(now, name, i as u64, case_of(group, i));
-        i += 1;
     }
     now
 }
@@ -81,10 +78,8 @@ fn with_group(tally: Tally, group: u64) -> Tally {
 // The forms' cases, counted on from a tally.
 pub(crate) fn every_form(before: Tally) -> Tally {
     let mut tally = before;
-    let mut group = 1;
-    while group <= GROUPS {
+    for group in 1..=GROUPS {
         tally = with_group(tally, group);
-        group += 1;
     }
     tally
 }

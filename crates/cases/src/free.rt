@@ -7,6 +7,7 @@ use crate::banks::put_part;
 use crate::example::{AFTER_BANK, END};
 use crate::once::{AFTER_ROUNDING, put_rounding};
 use crate::texts::told;
+use rules::Rounding;
 use splice::put_bytes;
 
 // The allowance, and the bytes of its field.
@@ -26,19 +27,27 @@ pub(crate) fn put_allowance(out: &mut [u8], at: usize) -> usize
     at + FIELD
 }
 
-// Where the field begins: after tag 4 for a policy that rounds once (1), else after the models.
-pub(crate) fn field_place(rounding: u8) -> usize
+// How a policy rounds, by whether a number is even.
+pub(crate) fn rounding_of(number: usize) -> Rounding {
+    if number % 2 == 0 {
+        Rounding::Apart
+    } else {
+        Rounding::Once
+    }
+}
+
+// Where the field begins: after tag 4 for a policy that rounds once, else after the models.
+pub(crate) fn field_place(rounding: Rounding) -> usize
     ensures { (130 ≤ result) × (result ≤ 134) }
 {
-    if rounding == 1 {
-        AFTER_ROUNDING
-    } else {
-        AFTER_BANK
+    match rounding {
+        Rounding::Apart => AFTER_BANK,
+        Rounding::Once => AFTER_ROUNDING,
     }
 }
 
 // Puts the example's input with a policy that rounds so and has an allowance. Tag 4 is put first, and written over where there is none.
-pub(crate) fn put_free(out: &mut [u8], rounding: u8)
+pub(crate) fn put_free(out: &mut [u8], rounding: Rounding)
     requires { 214 ≤ length out.old }
 {
     put_part(out, 0, 0, AFTER_BANK);
@@ -96,9 +105,9 @@ fn is_free_once(call: u8, input: &[u8]) -> bool {
 }
 
 // The texts of the example with such an allowance, rounding so.
-pub(crate) fn is_free(call: u8, input: &[u8], rounding: u8) -> bool {
-    if rounding == 0 {
-        return is_free_apart(call, input);
+pub(crate) fn is_free(call: u8, input: &[u8], rounding: Rounding) -> bool {
+    match rounding {
+        Rounding::Apart => is_free_apart(call, input),
+        Rounding::Once => is_free_once(call, input),
     }
-    is_free_once(call, input)
 }

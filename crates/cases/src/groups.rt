@@ -9,7 +9,7 @@ use crate::limits::{LIMITS, limit};
 use crate::pairs::pair;
 use crate::sizes::{BANKS, bank, length};
 use crate::spoken::{SENTENCES, sentence};
-use crate::tally::{Seen, Tally, judged, noted, nothing};
+use crate::tally::{Seen, Tally, judged, noted};
 use crate::texts::{is_example, prints};
 
 const GROUPS: u64 = 10;
@@ -63,23 +63,18 @@ fn case_of(group: u64, number: usize) -> Seen {
 
 // A tally with all numbers of a group.
 fn with_group(tally: Tally, group: u64) -> Tally {
-    let numbers = size_of(group);
     let mut now = tally;
-    let mut i = 0;
-    while i < numbers {
+    for i in 0..size_of(group) {
         now = noted(now, group, i as u64, case_of(group, i));
-        i += 1;
     }
     now
 }
 
 // The tally of all that is printed.
 pub(crate) fn every() -> Tally {
-    let mut tally = nothing();
-    let mut group = 1;
-    while group <= GROUPS {
+    let mut tally = Tally::default();
+    for group in 1..=GROUPS {
         tally = with_group(tally, group);
-        group += 1;
     }
     tally
 }

@@ -7,6 +7,7 @@ use crate::example::{AFTER_BANK, BANK, END};
 use crate::free::{ALLOWANCE, put_allowance};
 use crate::once::put_rounding;
 use crate::owing::{Owed, STORED, answered, refused};
+use rules::Rounding;
 
 pub(crate) const ORDERS: usize = 7_776;
 
@@ -65,9 +66,9 @@ fn program_order(end: usize, code: usize) -> Owed
     ensures { result.end ≤ 600 }
 {
     match code {
-        1_890 => answered(end, 1, 0),
-        1_926 => answered(end, 0, ALLOWANCE),
-        1_905 => answered(end, 1, ALLOWANCE),
+        1_890 => answered(end, Rounding::Once, 0),
+        1_926 => answered(end, Rounding::Apart, ALLOWANCE),
+        1_905 => answered(end, Rounding::Once, ALLOWANCE),
         _ => refused(end, 21),
     }
 }
@@ -78,9 +79,9 @@ fn stored_order(end: usize, code: usize) -> Owed
     ensures { result.end ≤ 600 }
 {
     match code {
-        1_872 => answered(end, 1, 0),
-        1_908 => answered(end, 0, ALLOWANCE),
-        1_902 => answered(end, 1, ALLOWANCE),
+        1_872 => answered(end, Rounding::Once, 0),
+        1_908 => answered(end, Rounding::Apart, ALLOWANCE),
+        1_902 => answered(end, Rounding::Once, ALLOWANCE),
         _ => refused(end, 21),
     }
 }

@@ -10,18 +10,20 @@ use crate::reading::reads_stored;
 use crate::refused::refuses;
 use crate::tally::{Seen, judged};
 use crate::texts::is_example;
+use rules::Rounding;
 
 // The readers by their numbers: the calls that print, then the stored form's.
 pub(crate) const READERS: usize = 4;
 
 pub(crate) const STORED: usize = 3;
 
-// Where a reader's bytes end, the number that it owes, and where that is 0 how the policy rounds, 0 apart and 1 once, and its allowance.
+// Where a reader's bytes end, the number that it owes, and where that is 0 how the policy rounds, and its allowance.
+// By number: as in the documents' tables, 0 stands for an answer.
 #[derive(Clone, Copy)]
 pub(crate) struct Owed {
     pub end: usize,
     pub number: u8,
-    pub rounding: u8,
+    pub rounding: Rounding,
     pub allowance: u32,
 }
 
@@ -32,13 +34,13 @@ pub(crate) fn refused(end: usize, number: u8) -> Owed
     Owed {
         end,
         number,
-        rounding: 0,
+        rounding: Rounding::Apart,
         allowance: 0,
     }
 }
 
 // The example's answer by a policy that says so.
-pub(crate) fn answered(end: usize, rounding: u8, allowance: u32) -> Owed
+pub(crate) fn answered(end: usize, rounding: Rounding, allowance: u32) -> Owed
     ensures { result.end ≡ end }
 {
     Owed {
@@ -57,10 +59,10 @@ fn is_printed(call: u8, input: &[u8], owed: Owed) -> bool {
     if owed.allowance != 0 {
         return is_free(call, input, owed.rounding);
     }
-    if owed.rounding == 0 {
-        return is_example(call, input, 1, EACH_ROOM);
+    match owed.rounding {
+        Rounding::Apart => is_example(call, input, 1, EACH_ROOM),
+        Rounding::Once => is_once(call, input),
     }
-    is_once(call, input)
 }
 
 // What one reader comes to on the first bytes of an input.

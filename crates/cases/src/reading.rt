@@ -5,12 +5,13 @@ use crate::banks::{SPACE, length_answer, length_of, put_long};
 use crate::calls::{read_into, request_read};
 use crate::damage::{NO_CASE, damaged};
 use crate::example::{AFTER_BANK, END, MODELS, example};
-use crate::marks::{MARK, REFUSED, settled};
+use crate::marks::{MARK, owed, settled};
 use crate::tally::{Seen, judged};
+use rules::Rounding;
 
 // Reads a stored form with the example's bank, and its policy that rounds so and has this allowance, into the first bytes of a buffer. Too little
 // room comes last.
-fn reads_in(form: &[u8], number: u8, rounding: u8, allowance: u32, room: usize) -> bool
+fn reads_in(form: &[u8], number: u8, rounding: Rounding, allowance: u32, room: usize) -> bool
     requires { room ≤ 120 }
 {
     let input = example();
@@ -20,23 +21,15 @@ fn reads_in(form: &[u8], number: u8, rounding: u8, allowance: u32, room: usize) 
 }
 
 // Into more than enough room, one byte less than enough, and none.
-pub(crate) fn reads_stored(form: &[u8], number: u8, rounding: u8, allowance: u32) -> bool {
-    if !reads_in(form, number, rounding, allowance, 120) {
-        return false;
-    }
-    if !reads_in(form, number, rounding, allowance, 93) {
-        return false;
-    }
-    reads_in(form, number, rounding, allowance, 0)
+pub(crate) fn reads_stored(form: &[u8], number: u8, rounding: Rounding, allowance: u32) -> bool {
+    reads_in(form, number, rounding, allowance, 120)
+        && reads_in(form, number, rounding, allowance, 93)
+        && reads_in(form, number, rounding, allowance, 0)
 }
 
 // Reads a request form, which needs no room.
 fn reads_request(form: &[u8], number: u8) -> bool {
-    let told = request_read(form);
-    if number == 0 {
-        return told == 0;
-    }
-    told == REFUSED + number as usize
+    request_read(form) == owed(number, 0, 0)
 }
 
 // Groups 1 to 4, the kinds of damage: first to the stored form.
@@ -47,7 +40,7 @@ pub(crate) fn damaged_stored(kind: u64, number: usize) -> Seen {
     if case.number == NO_CASE {
         return Seen::NoCase;
     }
-    judged(reads_stored(&input[0..end], case.number, 0, 0))
+    judged(reads_stored(&input[0..end], case.number, Rounding::Apart, 0))
 }
 
 // Then to the request form.
@@ -68,7 +61,7 @@ pub(crate) fn long(number: usize) -> Seen {
     let mut input = [0u8; SPACE];
     let mut buffer = [MARK; SPACE];
     put_long(&mut input, size);
-    let told = read_into(&input[0..end], 0, 0, &mut buffer, SPACE);
+    let told = read_into(&input[0..end], Rounding::Apart, 0, &mut buffer, SPACE);
     judged(settled(
         told,
         length_answer(size, 0),

@@ -8,6 +8,7 @@ use crate::orders::{ORDERS, order};
 use crate::owing::{Owed, READERS, STORED, answered, refused, seen};
 use crate::tally::Seen;
 use endian_writing::put16;
+use rules::Rounding;
 
 // Room for every input that is made here.
 const SPACE: usize = 600;
@@ -27,7 +28,7 @@ fn cut_after_models(reader: usize) -> Owed
     ensures { result.end ≤ 600 }
 {
     if reader == STORED {
-        return answered(AFTER_BANK, 0, 0);
+        return answered(AFTER_BANK, Rounding::Apart, 0);
     }
     refused(AFTER_BANK, 21)
 }
@@ -42,7 +43,7 @@ fn cut(reader: usize, end: usize) -> Owed
         return refused(end, NO_CASE);
     }
     if end == whole {
-        return answered(end, 1, 0);
+        return answered(end, Rounding::Once, 0);
     }
     match end {
         130 => cut_after_models(reader),
@@ -79,7 +80,7 @@ fn byte(out: &mut [u8], reader: usize, number: usize) -> Owed
     let right = out[AFTER_BANK + which];
     out[AFTER_BANK + which] = value;
     if value == right {
-        return answered(whole, 1, 0);
+        return answered(whole, Rounding::Once, 0);
     }
     refused(whole, byte_answer(reader, which, value))
 }

@@ -12,22 +12,12 @@ pub(crate) enum Seen {
 }
 
 // How many cases there are, how many differ, and the group and number of the first that does.
-#[derive(Clone, Copy)]
+#[derive(Clone, Copy, Default)]
 pub(crate) struct Tally {
     pub cases: u64,
     pub different: u64,
     pub group: u64,
     pub number: u64,
-}
-
-// Before the first case.
-pub(crate) fn nothing() -> Tally {
-    Tally {
-        cases: 0,
-        different: 0,
-        group: 0,
-        number: 0,
-    }
 }
 
 // A case that was asked.
@@ -36,14 +26,13 @@ pub(crate) fn judged(same: bool) -> Seen {
 }
 
 // One case more that differs.
-fn differing(tally: Tally, group: u64, number: u64) -> Tally {
-    let mut now = tally;
-    if now.different == 0 {
-        now.group = group;
-        now.number = number;
+fn differing(mut tally: Tally, group: u64, number: u64) -> Tally {
+    if tally.different == 0 {
+        tally.group = group;
+        tally.number = number;
     }
-    now.different = now.different.wrapping_add(1);
-    now
+    tally.different = tally.different.wrapping_add(1);
+    tally
 }
 
 // A tally with one number more; a number that stands for no case is not counted.

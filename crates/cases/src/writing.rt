@@ -4,7 +4,7 @@ ghost use Rattle.std.specs.Prelude.{◌+◌, ◌≤◌, length};
 use crate::banks::{Models, SPACE, put_input};
 use crate::calls::{write_into, write_request_into};
 use crate::example::{AFTER_BANK, END, MODELS, example};
-use crate::free::{ALLOWANCE, FIELD, field_place, put_free};
+use crate::free::{ALLOWANCE, FIELD, field_place, put_free, rounding_of};
 use crate::marks::{MARK, settled};
 use crate::once::{AFTER_ROUNDING, ONCE_END, put_once};
 use crate::tally::{Seen, judged};
@@ -64,17 +64,11 @@ pub(crate) fn once_room(number: usize) -> Seen {
 // Group 11: the same with an allowance, whose form has seven bytes more, by either rounding.
 pub(crate) fn free_room(number: usize) -> Seen {
     let room = number / 2 % FREE_ROOMS;
-    let once = number % 2 == 1;
-    let said = once as u8;
-    let end = field_place(said) + FIELD;
+    let rounding = rounding_of(number);
+    let end = field_place(rounding) + FIELD;
     let mut input = [0u8; FREE_END];
-    put_free(&mut input, said);
+    put_free(&mut input, rounding);
     let mut out = [MARK; FREE_ROOMS];
-    let rounding = if once {
-        Rounding::Once
-    } else {
-        Rounding::Apart
-    };
     let told = write_into(
         rounding,
         ALLOWANCE,

@@ -1,4 +1,3 @@
 -- The laws of the tests, stage by stage, and of the call.
 pub mod Walks
-pub mod Trusting
 pub mod Answers

@@ -1,33 +1,25 @@
 -- What noting a lever adds to a room, and four levers noted one after the other. Assumes nothing.
-use Rattle.rules.proofs.Kit.{ℕ, ◌+◌, ◌≤◌, arith, ◌≡◌, refl, ap, ◌∙◌, length}
+use Rattle.rules.proofs.Kit.{ℕ, ◌+◌, ◌≤◌, arith, ◌≡◌, refl, ap, ◌∙◌, length, map}
 use Rattle.rules.specs.{Levers.Question, Levers.plain, Levers.priced, declared.records.KernelModel.KernelModel, declared.boundary.Bound.Bound}
-use Rattle.rules.specs.{declared.boundary.Bound.TheVariants.At, declared.boundary.Bound.TheVariants.Nothing, Halving.passes_of}
-use Rattle.rules.proofs.Halvings.{plain_passes}
+use Rattle.rules.specs.{Halving.passes_of, Levers.at_boundary, Levers.entry, Limits.ppm, Numbers.Entry}
+use Rattle.std.specs.Prelude.{Option, Some, None, option_to_list}
+use Rattle.std.proofs.Math.Option.{none, some}
 use Rattle.counterfactual_answer.specs.Levers.{LeverRooms, empty_room, rooms_joined, room_of, cost_at, priced_by, four_sought}
 use Rattle.counterfactual_answer.proofs.Rooms.{joined_passes, four_joined}
 
--- ---- its passes
+-- ---- at most one entry
 
-priced_passes : (cost : ℕ) (r : Bound) → (priced_by cost r).passes ≤ passes_of r + 1
-priced_passes cost (At b n) = omega arith
-priced_passes cost (Nothing n) = omega arith
+few : (told : ℕ → Entry) (found : Bound) → length (at_boundary told found) ≤ 1
+few told found = elim found.boundary as (λ o. length (map told (option_to_list o)) ≤ 1) [ None ↦ omega arith | Some b ↦ omega arith ]
+
+-- ---- the passes
 
 pub note_passes : {u : LeverRooms} (t : LeverRooms) (lever current : ℕ) (r : Bound) → u ≡ rooms_joined t (plain lever current r)
     → u.passes ≡ t.passes + passes_of r
-note_passes t lever current r e = omega (arith, joined_passes t (plain lever current r) e, plain_passes lever current r)
+note_passes t lever current r e = joined_passes t (plain lever current r) e
 
 pub price_passes : {u : LeverRooms} (t : LeverRooms) (cost : ℕ) (r : Bound) → u ≡ rooms_joined t (priced_by cost r) → u.passes ≤ t.passes + passes_of r + 1
-price_passes t cost r e = omega (arith, joined_passes t (priced_by cost r) e, priced_passes cost r)
-
--- ---- its entry, if any
-
-plain_few : (lever current : ℕ) (r : Bound) → length (plain lever current r).entries ≤ 1
-plain_few lever current (At b n) = omega arith
-plain_few lever current (Nothing n) = omega arith
-
-priced_few : (cost : ℕ) (r : Bound) → length (priced_by cost r).entries ≤ 1
-priced_few cost (At b n) = omega arith
-priced_few cost (Nothing n) = omega arith
+price_passes t cost r e = omega (arith, joined_passes t (priced_by cost r) e, few (λ b. entry 3 ppm b (some cost)) r)
 
 -- FOUR LEVERS, EACH FROM WHAT ITS NOTE ENSURES
 pub four_noted : (m : KernelModel) (cost : ℕ) {t u₁ u₂ u₃ u₄ : LeverRooms} (r₁ r₂ r₃ r₄ : Bound)
@@ -46,16 +38,19 @@ four_noted m cost r₁ r₂ r₃ r₄ e e₁ e₂ e₃ e₄ =
     ∙ ap (λ t. rooms_joined t ceiling)
     (e₃ ∙ ap (λ t. rooms_joined t (priced_by cost r₃)) (e₂ ∙ ap (λ t. rooms_joined t latency) (e₁ ∙ ap (λ t. rooms_joined t quality) e)))
     ∙ four_joined quality latency (priced_by cost r₃) ceiling
-    (plain_few 1 m.quality_bps r₁)
-    (plain_few 2 m.p95_latency_ms r₂)
-    (priced_few cost r₃)
-    (plain_few 4 m.risk_ceiling_bps r₄)
+    (few (λ b. entry 1 m.quality_bps b none) r₁)
+    (few (λ b. entry 2 m.p95_latency_ms b none) r₂)
+    (few (λ b. entry 3 ppm b (some cost)) r₃)
+    (few (λ b. entry 4 m.risk_ceiling_bps b none) r₄)
 
 -- ---- the price with its cost
 
 priced_at : (a : Question) (r : Bound) → priced_by (cost_at a r) r ≡ priced a r
-priced_at a (At b n) = refl
-priced_at a (Nothing n) = refl
+priced_at a r = go r.boundary r.passes
+  where
+    go : (o : Option ℕ) (n : ℕ) → (let r : Bound = record { boundary = o; passes = n } in priced_by (cost_at a r) r ≡ priced a r)
+    go None n = refl
+    go (Some b) n = refl
 
 -- WHAT FOUR SEARCHES FOUND, WITH THE COST AT THE PRICE'S BOUNDARY
 pub four_sought_lem : (a : Question) {cost : ℕ} {t : LeverRooms} {r₁ r₂ r₃ r₄ s₁ s₂ s₃ s₄ : Bound} → t ≡ room_of (four_sought a.model r₁ r₂ (priced_by cost r₃) r₄)

@@ -1,25 +1,16 @@
 -- Laws of room for four levers: what goes into it stands there in its order, with nothing after it; and the answer with such a room. Assumes
 -- nothing.
-use Rattle.rules.proofs.Kit.{ℕ, zero, suc, ◌+◌, ◌-◌, ◌<◌, ◌≤◌, dec_lt, arith, ◌≡◌, refl, sym, ap, ap₂, ◌∙◌, List, [], ◌∷◌, ◌++◌, map, append-nil, append_assoc}
+use Rattle.rules.proofs.Kit.{ℕ, suc, ◌+◌, ◌-◌, ◌<◌, ◌≤◌, dec_lt, arith, ◌≡◌, refl, sym, ap, ap₂, ◌∙◌, List, [], ◌∷◌, ◌++◌, append-nil, append_assoc}
 use Rattle.rules.proofs.Kit.{Bool, length, set, replicate, length-append}
-use Rattle.rules.specs.{Refused.no_fault, Numbers.Entry, Numbers.told_entry, Numbers.Decision, Numbers.Boundary, Levers.Sought, Levers.no_entry, Levers.no_search}
-use Rattle.rules.specs.{Levers.and_then, Levers.boundary_of, declared.boundary.Requirement.Requirement, declared.boundary.Levers.Levers}
+use Rattle.std.proofs.lemmas.List.{map-set}
+use Rattle.rules.specs.{Refused.no_fault, Numbers.Entry, Numbers.Decision, Numbers.Boundary, Levers.Sought, Levers.no_entry, Levers.no_search}
+use Rattle.rules.specs.{Levers.and_then, Levers.boundary_of}
 use Rattle.rules.proofs.Choices.{below-yes, below-no}
-use Rattle.counterfactual_answer.specs.Levers.{LeverRooms, told_levers, pushed, passed, all_pushed, rooms_joined, room_of, boundary_with}
+use Rattle.counterfactual_answer.specs.Levers.{LeverRooms, pushed, passed, all_pushed, rooms_joined, room_of, boundary_with}
 
 -- ---- one lever more
 
-map-set : (rs : List Requirement) (i : ℕ) (r : Requirement) → map told_entry (set rs i r) ≡ set (map told_entry rs) i (told_entry r)
-map-set [] i r = refl
-map-set (x ∷ rs) zero r = refl
-map-set (x ∷ rs) (suc i) r = ap (λ l. told_entry x ∷ l) (map-set rs i r)
-
-pub pushed_room : (l : Levers) (r : Requirement) → l.count < 4
-    → told_levers (record { levers = set l.levers l.count r; count = l.count + 1; passes = l.passes }) ≡ pushed (told_levers l) (told_entry r)
-unfolding pushed
-pushed_room l r h = rw map-set (sym (below-yes l.count 4 _ _ h))
-
-pub pushed_full : (t : LeverRooms) (e : Entry) → 4 ≤ t.count → pushed t e ≡ t
+pushed_full : (t : LeverRooms) (e : Entry) → 4 ≤ t.count → pushed t e ≡ t
 unfolding pushed
 pushed_full t e h = below-no t.count 4 _ _ h
 
@@ -28,22 +19,17 @@ pushed_is : (t : LeverRooms) (e : Entry) → t.count < 4
 unfolding pushed
 pushed_is t e h = below-yes t.count 4 _ _ h
 
--- one lever with its passes is what a search with one entry joins
-pub joined_one : {q e : Entry} {u v : LeverRooms} (t : LeverRooms) (n : ℕ) → q ≡ e → u ≡ pushed t q → v ≡ passed u n
-    → v ≡ rooms_joined t (record { entries = e ∷ []; passes = n })
-joined_one t n a b d = d ∙ ap (λ (u : LeverRooms). passed u n) (b ∙ ap (pushed t) a)
-
 -- ---- the passes
 
-pushed_passes : (t : LeverRooms) (e : Entry) → (pushed t e).passes ≡ t.passes
+pub pushed_passes : (t : LeverRooms) (e : Entry) → (pushed t e).passes ≡ t.passes
 pushed_passes t e = go (dec_lt t.count 4)
   where
     go : Dec (t.count < 4) → (pushed t e).passes ≡ t.passes
     go (yes h) = rw (pushed_is t e h)
     go (no h) = rw (pushed_full t e (omega arith))
 
-pub push_passes : {u : LeverRooms} (t : LeverRooms) (e : Entry) → u ≡ pushed t e → u.passes ≡ t.passes
-push_passes t e h = ap (λ (t : LeverRooms). t.passes) h ∙ pushed_passes t e
+-- what code proofs use of a lever more
+pub ruleset pushes = (map-set, pushed_passes)
 
 all_passes : (t : LeverRooms) (es : List Entry) → (all_pushed t es).passes ≡ t.passes
 all_passes t [] = refl

@@ -1,15 +1,14 @@
 -- Room for four levers in document 01's numbers, and what goes into it.
-use Rattle.std.specs.Prelude.{ℕ, ◌+◌, ◌-◌, ◌≤◌, Bool, List, [], ◌∷◌, ◌++◌, map, length, set, replicate}
+use Rattle.std.specs.Prelude.{ℕ, ◌+◌, ◌-◌, ◌≤◌, Bool, List, [], ◌∷◌, ◌++◌, map, length, set, replicate, unwrap_or, option_map}
 use Rattle.std.proofs.Math.Option.{Option, some}
 use Rattle.rules.specs.Limits.{ppm}
 use Rattle.rules.specs.Choice.{below}
 use Rattle.rules.specs.Refused.{Fault}
 use Rattle.rules.specs.Numbers.{Decision, Entry, told_entry, Boundary}
 use Rattle.rules.specs.Halving.{passes_of}
-use Rattle.rules.specs.Levers.{Question, decision_at, Sought, entry, plain, and_then, no_entry}
+use Rattle.rules.specs.Levers.{Question, decision_at, Sought, entry, at_boundary, plain, and_then, no_entry}
 use Rattle.rules.specs.declared.records.KernelModel.{KernelModel}
 use Rattle.rules.specs.declared.boundary.Bound.{Bound}
-use Rattle.rules.specs.declared.boundary.Bound.TheVariants.{At, Nothing}
 use Rattle.rules.specs.declared.boundary.Levers.{Levers}
 
 -- The levers' part of an answer
@@ -64,12 +63,12 @@ boundary_with f id d blocked t =
 
 -- W9. The cost at the price's boundary, 0 where there is none; and the price lever with a cost
 abbrev pub cost_at : Question → Bound → ℕ
-cost_at a (At b n) = (decision_at a 3 b).cost
-cost_at a (Nothing n) = 0
+cost_at a found = unwrap_or (option_map (λ b. (decision_at a 3 b).cost) found.boundary) 0
 
 abbrev pub priced_by : ℕ → Bound → Sought
-priced_by cost (At b n) = record { entries = entry 3 ppm b (some cost) ∷ []; passes = n + 1 }
-priced_by cost (Nothing n) = record { entries = []; passes = n }
+priced_by cost found =
+    let entries = at_boundary (λ b. entry 3 ppm b (some cost)) found in
+    record { entries = entries; passes = found.passes + length entries }
 
 -- W10. Four levers of a model, by what their searches found
 abbrev pub four_sought : KernelModel → Bound → Bound → Sought → Bound → Sought

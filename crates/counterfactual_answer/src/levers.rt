@@ -11,7 +11,7 @@ ghost use Rattle.counterfactual_answer.specs.Levers.{told_levers, empty_room, pu
 
 use counterfactual_lever::{P95_LATENCY_MS, PRICE_SCALE_PPM, QUALITY_BPS, RISK_CEILING_BPS};
 use rules::limits::PPM;
-use rules::{Bound, BoundaryCost, KernelModel, Levers, Requirement};
+use rules::{Bound, KernelModel, Levers, Requirement};
 
 // `plain`: a lever that carries no cost.
 pub fn plain(lever: u8, current: u64, boundary: u64) -> Requirement
@@ -21,7 +21,7 @@ pub fn plain(lever: u8, current: u64, boundary: u64) -> Requirement
         lever,
         current,
         boundary,
-        cost_at_boundary_microunits: BoundaryCost::Unpriced,
+        cost_at_boundary_microunits: None,
     }
 }
 
@@ -33,7 +33,7 @@ fn priced(scale: u64, cost: u64) -> Requirement
         lever: PRICE_SCALE_PPM,
         current: PPM,
         boundary: scale,
-        cost_at_boundary_microunits: BoundaryCost::Microunits(cost),
+        cost_at_boundary_microunits: Some(cost),
     }
 }
 
@@ -50,49 +50,47 @@ pub fn no_levers(passes: u64) -> Levers
 }
 
 // One lever more.
-pub fn push(levers: Levers, requirement: Requirement) -> Levers
+#[tactic(auto, using(crate::proofs::Rooms::pushes), unfolding(crate::specs::Levers::pushed, rules::specs::Choice::below))]
+pub fn push(mut levers: Levers, requirement: Requirement) -> Levers
     ensures { told_levers result ≡ pushed (told_levers levers) (told_entry requirement) }
 {
-    let at = levers.count;
-    let mut next = levers;
-    if at < 4 {
-        next.levers[at] = requirement;
-        next.count = at + 1;
-        next
-    } else {
-        next
+    if levers.count < levers.levers.len() {
+        levers.levers[levers.count] = requirement;
+        levers.count += 1;
     }
+    levers
 }
 
 // So many passes more.
-fn pass(levers: Levers, n: u64) -> Levers
+fn pass(mut levers: Levers, n: u64) -> Levers
     requires { levers.passes + n < 2 ^ 64 }
     ensures { told_levers result ≡ passed (told_levers levers) n }
 {
-    let mut next = levers;
-    next.passes = next.passes + n;
-    next
+    levers.passes += n;
+    levers
 }
 
 // With what the search of a lever found.
+#[tactic(auto, using(crate::proofs::Rooms::pushes))]
 fn note(levers: Levers, lever: u8, current: u64, found: Bound) -> Levers
     requires { levers.passes + passes_of found < 2 ^ 64 }
     ensures { told_levers result ≡ rooms_joined (told_levers levers) (rule.plain lever current found) }
 {
-    match found {
-        Bound::At(boundary, n) => pass(push(levers, plain(lever, current, boundary)), n),
-        Bound::Nothing(n) => pass(levers, n),
+    match found.boundary {
+        Some(boundary) => pass(push(levers, plain(lever, current, boundary)), found.passes),
+        None => pass(levers, found.passes),
     }
 }
 
 // With what the search of the price found, and the cost there.
+#[tactic(auto, using(crate::proofs::Rooms::pushes))]
 fn note_price(levers: Levers, found: Bound, cost: u64) -> Levers
     requires { levers.passes + passes_of found + 1 < 2 ^ 64 }
     ensures { told_levers result ≡ rooms_joined (told_levers levers) (priced_by cost found) }
 {
-    match found {
-        Bound::At(scale, n) => pass(push(levers, priced(scale, cost)), n + 1),
-        Bound::Nothing(n) => pass(levers, n),
+    match found.boundary {
+        Some(scale) => pass(push(levers, priced(scale, cost)), found.passes + 1),
+        None => pass(levers, found.passes),
     }
 }
 
@@ -108,13 +106,23 @@ pub fn noted_levers(
     requires { FewPasses quality latency price ceiling }
     ensures { told_levers result ≡ room_of (four_sought model quality latency (priced_by cost price) ceiling) }
 {
-    let one = note(no_levers(1), QUALITY_BPS, model.quality_bps as u64, quality);
-    let two = note(one, P95_LATENCY_MS, model.p95_latency_ms as u64, latency);
+    let one = note(
+        no_levers(1),
+        QUALITY_BPS,
+        u64::from(model.quality_bps),
+        quality,
+    );
+    let two = note(
+        one,
+        P95_LATENCY_MS,
+        u64::from(model.p95_latency_ms),
+        latency,
+    );
     let three = note_price(two, price, cost);
     note(
         three,
         RISK_CEILING_BPS,
-        model.risk_ceiling_bps as u64,
+        u64::from(model.risk_ceiling_bps),
         ceiling,
     )
 }

@@ -12,11 +12,8 @@ pub fn price_cost(asked: Asked, bank: &[u8], found: Bound) -> u64
     requires { Stands asked bank.now }
     ensures { result ≡ cost_at (question_in asked bank.now) found }
 {
-    match found {
-        Bound::At(scale, _) => {
-            let decision = decision_at(asked, bank, PRICE_SCALE_PPM, scale);
-            decision.estimated_cost_microunits
-        }
-        Bound::Nothing(_) => 0,
+    match found.boundary {
+        Some(scale) => decision_at(asked, bank, PRICE_SCALE_PPM, scale).estimated_cost_microunits,
+        None => 0,
     }
 }

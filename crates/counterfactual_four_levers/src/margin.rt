@@ -7,7 +7,7 @@ ghost use Rattle.counterfactual_answer.specs.Levers.{told_levers, room_of};
 use crate::cost::price_cost;
 use counterfactual_answer::levers::noted_levers;
 use counterfactual_lever::{P95_LATENCY_MS, PRICE_SCALE_PPM, QUALITY_BPS, RISK_CEILING_BPS};
-use counterfactual_pass::held::{held_from, model_held, request_held};
+use counterfactual_pass::held::Held;
 use counterfactual_pass::pass::Asked;
 use counterfactual_search::far::{highest_below, lowest_above};
 use counterfactual_search::search::lowest_true;
@@ -27,27 +27,11 @@ pub fn margin_levers(asked: Asked, bank: &[u8]) -> Levers
     let quality = model.quality_bps as u64;
     let latency = model.p95_latency_ms as u64;
     let ceiling = model.risk_ceiling_bps as u64;
-    let request = request_held(asked.input);
-    let varied = model_held(model);
-    let held = held_from(asked);
-    let by_quality = lowest_true(&request, &varied, &held, QUALITY_BPS, 0, quality);
-    let by_latency = highest_below(
-        &request,
-        &varied,
-        &held,
-        P95_LATENCY_MS,
-        latency,
-        MAX_LATENCY_MS,
-    );
-    let by_price = highest_below(
-        &request,
-        &varied,
-        &held,
-        PRICE_SCALE_PPM,
-        PPM,
-        MAX_PRICE_SCALE_PPM,
-    );
-    let by_ceiling = lowest_above(&request, &varied, &held, RISK_CEILING_BPS, 0, ceiling);
+    let held = Held::new(asked);
+    let by_quality = lowest_true(&held, QUALITY_BPS, 0, quality);
+    let by_latency = highest_below(&held, P95_LATENCY_MS, latency, MAX_LATENCY_MS);
+    let by_price = highest_below(&held, PRICE_SCALE_PPM, PPM, MAX_PRICE_SCALE_PPM);
+    let by_ceiling = lowest_above(&held, RISK_CEILING_BPS, 0, ceiling);
     let cost = price_cost(asked, bank, by_price);
     noted_levers(model, by_quality, by_latency, by_price, cost, by_ceiling)
 }

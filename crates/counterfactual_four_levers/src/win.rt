@@ -7,7 +7,7 @@ ghost use Rattle.counterfactual_answer.specs.Levers.{told_levers, room_of};
 use crate::cost::price_cost;
 use counterfactual_answer::levers::noted_levers;
 use counterfactual_lever::{P95_LATENCY_MS, PRICE_SCALE_PPM, QUALITY_BPS, RISK_CEILING_BPS};
-use counterfactual_pass::held::{held_from, model_held, request_held};
+use counterfactual_pass::held::Held;
 use counterfactual_pass::pass::Asked;
 use counterfactual_search::search::{highest_true, lowest_true};
 use rules::Levers;
@@ -23,13 +23,11 @@ pub fn win_levers(asked: Asked, bank: &[u8]) -> Levers
     let quality = model.quality_bps as u64;
     let latency = model.p95_latency_ms as u64;
     let ceiling = model.risk_ceiling_bps as u64;
-    let request = request_held(asked.input);
-    let varied = model_held(model);
-    let held = held_from(asked);
-    let by_quality = lowest_true(&request, &varied, &held, QUALITY_BPS, quality, most);
-    let by_latency = highest_true(&request, &varied, &held, P95_LATENCY_MS, 0, latency);
-    let by_price = highest_true(&request, &varied, &held, PRICE_SCALE_PPM, 0, PPM);
-    let by_ceiling = lowest_true(&request, &varied, &held, RISK_CEILING_BPS, ceiling, most);
+    let held = Held::new(asked);
+    let by_quality = lowest_true(&held, QUALITY_BPS, quality, most);
+    let by_latency = highest_true(&held, P95_LATENCY_MS, 0, latency);
+    let by_price = highest_true(&held, PRICE_SCALE_PPM, 0, PPM);
+    let by_ceiling = lowest_true(&held, RISK_CEILING_BPS, ceiling, most);
     let cost = price_cost(asked, bank, by_price);
     noted_levers(model, by_quality, by_latency, by_price, cost, by_ceiling)
 }

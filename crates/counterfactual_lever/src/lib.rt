@@ -6,7 +6,6 @@ ghost use Rattle.rules.specs.Levers.{lever_at};
 ghost use Rattle.rules.specs.Price.{scaled_price};
 ghost use Rattle.counterfactual_lever.specs.Lever.{widest};
 
-use limbs_products::HALF;
 use rules::KernelModel;
 use rules::limits::PPM;
 
@@ -22,6 +21,7 @@ pub const RISK_CEILING_BPS: u8 = 4;
 pub const ENABLED: u8 = 5;
 
 // A scaled price by two limbs.
+#[tactic(auto, unfolding(rules::specs::Price::scaled_price))]
 fn scaled_price_wide(price: u64, scale: u64) -> u64
     ensures { result ≡ scaled_price price scale }
 {
@@ -29,18 +29,18 @@ fn scaled_price_wide(price: u64, scale: u64) -> u64
 }
 
 // A price at a scale in millionths, rounded down, held at the highest u64: `scaled` of one price.
+#[tactic(auto, unfolding(rules::specs::Price::scaled_price))]
 fn scaled_price(price: u64, scale: u64) -> u64
     ensures { result ≡ scaled_price price scale }
 {
-    if price < HALF {
-        if scale < HALF {
-            return price * scale / PPM;
-        }
+    match price.checked_mul(scale) {
+        Some(product) => product / PPM,
+        None => scaled_price_wide(price, scale),
     }
-    scaled_price_wide(price, scale)
 }
 
 // The model with the lever of a number at a value; any other number moves nothing. Both prices move alike.
+#[tactic(auto, unfolding(rules::specs::Levers::lever_at, rules::specs::Choice::equal, crate::specs::Lever::widest))]
 pub fn lever_at(model: KernelModel, lever: u8, value: u64) -> KernelModel
     requires { value ≤ widest lever }
     ensures { result ≡ lever_at lever value model }

@@ -1,9 +1,11 @@
 -- The margin, case by case. Assumes nothing.
-use Rattle.rules.proofs.Kit.{ℕ, ◌/◌, ◌<◌, ◌≡◌, sym, ap, ◌∙◌, true, false, List, none, some, length}
+use Rattle.rules.proofs.Kit.{ℕ, ◌/◌, ◌<◌, ◌≡◌, sym, ap, ◌∙◌, true, false, List, Option, none, some, length}
 use Rattle.rules.specs.{Records.listed_of, Refused.fault, Numbers.Decision, Numbers.is_rejection, Listing.first_listed, Listing.place_of, Decide.stopped_by}
 use Rattle.rules.specs.{Decide.decision_of, Levers.boundary_of, Levers.boundary_refused, Margin.margin_levers, Margin.margin_if_listed, Margin.margin_for}
 use Rattle.rules.specs.{Margin.margin_by, Margin.margin_in, Price.cost_under, declared.records.KernelInput.KernelInput}
 use Rattle.rules.specs.{declared.records.PolicySnapshot.PolicySnapshot}
+use Rattle.rules.specs.{Numbers.told_option, declared.refusal.Refusal.Refusal}
+use Rattle.std.specs.Prelude.{Option as Found, Some, None, Ok, Err, ok_or}
 use Rattle.rules.proofs.Stopped.{not_stopped}
 use Rattle.kernel_ranking.specs.declared.state.Top.{Top}
 use Rattle.live_slots.specs.Among.{among_of, Among}
@@ -11,6 +13,15 @@ use Rattle.live_slots.proofs.Among.{first_read}
 use Rattle.call_checks.proofs.Finding.{found_at, found_nothing}
 use Rattle.counterfactual_pass.proofs.AmongQuestions.{chosen-other, margin-read}
 use Rattle.counterfactual_pass.specs.{Asked.asked_from, Asked.question_in, declared.pass.Asked.Asked}
+
+-- A PLACE THAT IS THERE was found, and where it is missing nothing was
+pub place_found : (o : Found ℕ) (r : Refusal) {place : ℕ} {found : Option ℕ} → Ok place ≡ ok_or o r → told_option o ≡ found → found ≡ some place
+place_found None r e told = cc
+place_found (Some n) r {place} e told = sym told ∙ (let z : n ≡ place = cc in ap some z)
+
+pub place_missing : (o : Found ℕ) (r : Refusal) {k : Refusal} {found : Option ℕ} → Err k ≡ ok_or o r → told_option o ≡ found → (found ≡ none) × (k ≡ r)
+place_missing None r e told = (sym told, cc)
+place_missing (Some n) r e told = cc
 
 module _ (p : PolicySnapshot) (q : KernelInput) (many : ℕ) (bank : List ℕ) {d : Decision} (decided : d ≡ decision_of p q (among_of many bank)) where
   -- A REJECTION HAS NO MARGIN

@@ -14,18 +14,18 @@ use pricing_terms::{ZERO_SCORE, terms_wide};
 use rules::{KernelInput, KernelModel};
 
 // The best of all records but the one at a place, by the best two of all: the second where that record is the best.
+#[tactic(auto, unfolding(crate::specs::Others::others_of, rules::specs::Choice::equal))]
 pub fn others_best(top: Top, place: u16) -> Candidate
     ensures { result ≡ others_of top place }
 {
-    let best = top.best;
-    let second = top.second;
-    if best.model_index == place {
-        return second;
+    if top.best.model_index == place {
+        return top.second;
     }
-    best
+    top.best
 }
 
 // What a model is told, in plain forms, as in an explanation: the scan's own are compiled into its loop.
+#[tactic(auto, unfolding(kernel_verdict::specs::Verdict::verdict_in, kernel_verdict::specs::Verdict::by_score, rules::specs::Choice::below))]
 fn verdict_alone(pricing: Pricing, input: KernelInput, model: KernelModel) -> Verdict
     requires { Settled pricing }
     ensures { result ≡ verdict_in pricing input model }
@@ -34,8 +34,7 @@ fn verdict_alone(pricing: Pricing, input: KernelInput, model: KernelModel) -> Ve
     if 0 < gate {
         return Verdict::Rejected(gate);
     }
-    let rounding = pricing.rounding;
-    let cost = cost_alone(rounding, model, input);
+    let cost = cost_alone(pricing.rounding, model, input);
     if input.budget_limit_microunits < cost {
         return Verdict::OverBudget(cost);
     }
@@ -47,6 +46,7 @@ fn verdict_alone(pricing: Pricing, input: KernelInput, model: KernelModel) -> Ve
 }
 
 // The better of a model at a place and a rival; a model that isn't eligible leaves the rival as it is.
+#[tactic(auto, unfolding(crate::specs::Others::best_with, crate::specs::Others::against))]
 pub fn best_with(
     rival: Candidate,
     place: u16,
@@ -57,8 +57,7 @@ pub fn best_with(
     requires { Settled pricing }
     ensures { result ≡ best_with pricing input rival place model }
 {
-    let verdict = verdict_alone(pricing, input, model);
-    let Verdict::Eligible(terms) = verdict else {
+    let Verdict::Eligible(terms) = verdict_alone(pricing, input, model) else {
         return rival;
     };
     let own = entered(model, place, terms);
@@ -69,6 +68,7 @@ pub fn best_with(
 }
 
 // Whether a best candidate is somebody and has an id.
+#[tactic(auto, unfolding(crate::specs::Others::has_id))]
 pub fn has_id(best: Candidate, id: u32) -> bool
     ensures { result ≡ has_id id best }
 {

@@ -1,6 +1,6 @@
 -- A QUESTION OVER LIVE RECORDS IS ANSWERED AS OVER ALL: who wins, and at what cost, is told by the ranking alone, and whoever is switched off isn't in
 -- it. Over any list whose records with id 0 are switched off, for a model with another id. Assumes nothing.
-use Rattle.rules.proofs.Kit.{ℕ, ◌+◌, ◌≡◌, refl, sym, ap, ◌∙◌, Bool, true, false, cond, false≢true, List, [], ◌∷◌, some, eqb, ltb, eqb-true, ⊎_elim}
+use Rattle.rules.proofs.Kit.{ℕ, ◌+◌, ◌≡◌, refl, sym, ap, ◌∙◌, Bool, true, false, cond, false≢true, List, [], ◌∷◌, some, eqb, ltb, eqb-true, ⊎_elim, length}
 use Rattle.rules.proofs.Kit.{Option·some-injective, Option·none-ne-some}
 use Rattle.rules.specs.{Limits.ppm, Limits.max_price_scale, Choice.equal, Choice.below, Order.Each, Records.Listed, Records.listed, Numbers.Decision}
 use Rattle.rules.specs.{Numbers.is_rejection, Listing.first_listed, Price.Cost, Verdict.Judged, Verdict.judge_by, Verdict.judged_by, Rank.Candidate}
@@ -9,7 +9,7 @@ use Rattle.rules.specs.{Decide.by_verdicts, Decide.stopped_by, Decide.decision_b
 use Rattle.rules.specs.{Levers.lever_at, Levers.selects, Levers.varied, Levers.Question, Levers.decision_at, Levers.wins, Levers.entry, Levers.priced}
 use Rattle.rules.specs.{Win.win_levers, Win.win_search, Margin.margin_levers, Slots.live_of, declared.records.KernelModel.KernelModel}
 use Rattle.rules.specs.{declared.records.KernelInput.KernelInput, declared.records.PolicySnapshot.PolicySnapshot, declared.boundary.Bound.Bound}
-use Rattle.rules.specs.{declared.boundary.Bound.TheVariants.At, declared.boundary.Bound.TheVariants.Nothing}
+use Rattle.rules.specs.{Levers.at_boundary, Levers.plain, Levers.and_then, Halving.Lowest, Limits.max_bps, Limits.max_u32}
 use Rattle.rules.proofs.{Choices.equal-yes, Choices.equal-no, Orders.same_or_not, Sorted.sorted-each, Stopped.unstopped, Stopped.not_stopped}
 use Rattle.rules.proofs.Slots.{FreeOff, live-none, live-left, live-kept, live-some}
 use Rattle.live_slots.proofs.LeftOut.{ranking-left}
@@ -108,12 +108,15 @@ module _ (costs : Cost) (p : PolicySnapshot) (q : KernelInput) (id : ℕ) (m : K
     same-cost v = costs-alike costs p q _ _ (same-ranking 3 v)
 
     same-price : (b : Bound) → priced (asking (live_of ls)) b ≡ priced (asking ls) b
-    same-price (At b n) = λ i. record { entries = entry 3 ppm b (some (same-cost b i)) ∷ []; passes = n + 1 }
-    same-price (Nothing n) = refl
+    same-price b = λ i. let entries = at_boundary (λ v. entry 3 ppm v (some (same-cost v i))) b in record { entries = entries; passes = b.passes + length entries }
 
     same-levers : win_levers (asking (live_of ls)) ≡ win_levers (asking ls)
     unfolding win_levers
-    same-levers = rw (same-wins 1, same-wins 2, same-wins 3, same-wins 4, same-price (search_of Highest (wins (asking ls) 3) 0 ppm))
+    same-levers = λ i.
+        let m = (asking ls).model in
+        and_then (plain 1 m.quality_bps (search_of Lowest (same-wins 1 i) m.quality_bps max_bps))
+        (and_then (plain 2 m.p95_latency_ms (search_of Highest (same-wins 2 i) 0 m.p95_latency_ms))
+        (and_then (same-price (search_of Highest (same-wins 3 i) 0 ppm) i) (plain 4 m.risk_ceiling_bps (search_of Lowest (same-wins 4 i) m.risk_ceiling_bps max_bps))))
 
     -- WHAT WOULD WIN, AND THE MARGIN
     pub win-live : win_search (asking (live_of ls)) ≡ win_search (asking ls)
@@ -122,7 +125,12 @@ module _ (costs : Cost) (p : PolicySnapshot) (q : KernelInput) (id : ℕ) (m : K
 
     pub margin-live : margin_levers (asking (live_of ls)) ≡ margin_levers (asking ls)
     unfolding margin_levers
-    margin-live = rw (same-wins 1, same-wins 2, same-wins 3, same-wins 4, same-price (search_after_far_end Highest (wins (asking ls) 3) ppm max_price_scale))
+    margin-live = λ i.
+        let m = (asking ls).model in
+        and_then (plain 1 m.quality_bps (search_of Lowest (same-wins 1 i) 0 m.quality_bps))
+        (and_then (plain 2 m.p95_latency_ms (search_after_far_end Highest (same-wins 2 i) m.p95_latency_ms max_u32))
+        (and_then (same-price (search_after_far_end Highest (same-wins 3 i) ppm max_price_scale) i)
+        (plain 4 m.risk_ceiling_bps (search_after_far_end Lowest (same-wins 4 i) 0 m.risk_ceiling_bps))))
 
 -- ---- whose id it is
 

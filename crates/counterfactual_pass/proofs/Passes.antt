@@ -1,15 +1,22 @@
 -- A pass, by what the others offer, is what the rules say of the bank with the lever at the value; and so is the decision through a view of the
 -- lent bank. Assumes nothing.
-use Rattle.rules.proofs.Kit.{ℕ, ◌<◌, ◌≡◌, sym, ap, ◌∙◌, Bool, List, arith, length, set}
-use Rattle.rules.specs.{Records.listed, Records.listed_of, Records.records_in, Records.model_of, Records.input_of, Refused.Fault, Refused.refused, Refused.answered}
+use Rattle.rules.proofs.Kit.{ℕ, ◌<◌, ◌≡◌, refl, sym, ap, ◌∙◌, Bool, List, arith, length, set}
+use Rattle.rules.specs.{Records.listed, Records.listed_of, Records.records_in, Refused.answered}
 use Rattle.rules.specs.{Numbers.Decision, Decide.decision_of, Levers.lever_at, Levers.selects, Levers.decision_at, Levers.wins, View.with_model, View.view_of}
-use Rattle.rules.specs.{declared.records.KernelModel.KernelModel}
+use Rattle.rules.specs.{declared.records.KernelModel.KernelModel, declared.decision.KernelDecision.KernelDecision, declared.refusal.Refusal.Refusal}
+use Rattle.rules.specs.{Numbers.told_prescribed}
+use Rattle.std.specs.Prelude.{Result, Ok, Err, IsOk}
 use Rattle.call_checks.proofs.Finding.{found_at}
 use Rattle.counterfactual_others.proofs.Offers.{selects-by-others}
-use Rattle.counterfactual_pass.specs.{Asked.wins_by, Asked.wins_in, Asked.question_in, Asked.Stands, Held.place_in, Held.id_in, Held.rival_in, Held.pricing_in}
-use Rattle.counterfactual_pass.specs.{Held.wins_on, declared.pass.Asked.Asked}
-use Rattle.pricing.specs.Pricing.{Settled, pricing_of}
+use Rattle.counterfactual_pass.specs.{Asked.wins_by, Asked.wins_in, Asked.question_in, Asked.Stands, declared.pass.Asked.Asked}
+use Rattle.pricing.specs.{Pricing.pricing_of, declared.Pricing.Pricing}
 use Rattle.counterfactual_pass.proofs.Varied.{varied-at}
+
+-- what is held of what is asked wins where that does
+pub as_asked : (k : Asked) {a : Asked} {pr : Pricing} → (a ≡ k) × (pr ≡ pricing_of k.policy k.input) → (lever v : ℕ)
+    → wins_by pr a.input a.model a.place a.id a.rival lever v ≡ wins_in k lever v
+unfolding wins_in
+as_asked k new lever v = λ i. let x = new.0 i in wins_by (new.1 i) x.input x.model x.place x.id x.rival lever v
 
 module _ (k : Asked) (bank : List ℕ) (stands : Stands k bank) where
   inside : k.place < records_in (length bank)
@@ -31,35 +38,28 @@ module _ (k : Asked) (bank : List ℕ) (stands : Stands k bank) where
   pub wins-so : (lever v : ℕ) {b : Bool} → b ≡ wins_in k lever v → b ≡ wins (question_in k bank) lever v
   wins-so lever v e = e ∙ wins-at-value lever v
 
-  -- WHAT A SEARCH MAKES OF ITS ARRAYS, where they say what is asked, is what the rules say of the bank, at every value
-  module _ (request varied ns : List ℕ) (eq : input_of request ≡ k.input) (em : model_of varied ≡ k.model)
-      (says : (place_in ns ≡ k.place) × (id_in ns ≡ k.id) × (rival_in ns ≡ k.rival)
-      × (pricing_in ns ≡ pricing_of k.policy k.input) × Settled (pricing_in ns)) where
-    held_at : (lever v : ℕ) → wins_on request varied ns lever v ≡ wins_in k lever v
-    unfolding wins_on wins_in
-    held_at lever v = λ i. wins_by (says.3 i) (eq i) (em i) (says.0 i) (says.1 i) (says.2 i) lever v
-
-    -- so that a search over the one is a search over the other
-    pub same_test : (lever : ℕ) → wins_on request varied ns lever ≡ wins (question_in k bank) lever
-    same_test lever = λ i v. (held_at lever v ∙ wins-at-value lever v) i
+  -- so that a search over the one is a search over the other
+  pub same_test : (lever : ℕ) → wins_in k lever ≡ wins (question_in k bank) lever
+  same_test lever = λ i v. wins-at-value lever v i
 
   -- ---- the decision over the bank
 
   module _ (m : KernelModel) where
     -- the view of such a bank decides
-    decides : view_of k.policy k.input bank k.place m ≡ answered (decision_of k.policy k.input (with_model (listed_of bank) k.place m))
+    decides : (place : ℕ) → view_of k.policy k.input bank place m ≡ answered (decision_of k.policy k.input (with_model (listed_of bank) place m))
     unfolding view_of
-    decides = rw stands.whole
+    decides place = rw stands.whole
 
-    -- SO IT IS NEVER REFUSED
-    pub pass-answers : {f : Fault} → refused f ≡ view_of k.policy k.input bank k.place m → ⊥
-    pass-answers e = let h = e ∙ decides in let z : ◌≡◌ {A = ℕ} 0 1 = cc in omega arith
+    -- SO IT IS NEVER REFUSED, whichever record is varied
+    pub pass-answers : (place : ℕ) (r : Result KernelDecision Refusal) → told_prescribed r ≡ view_of k.policy k.input bank place m → IsOk r
+    pass-answers place (Ok d) e = refl
+    pass-answers place (Err f) e = let h = e ∙ decides place in let z : ◌≡◌ {A = ℕ} 0 1 = cc in absurd (omega arith)
 
     -- AND ITS DECISION is the one at the value
     pub pass-decides : (lever v : ℕ) {d : Decision} → m ≡ lever_at lever v k.model → answered d ≡ view_of k.policy k.input bank k.place m
         → d ≡ decision_at (question_in k bank) lever v
     unfolding with_model
     pass-decides lever v {d} moved e =
-        let h : answered d ≡ answered (decision_of k.policy k.input (with_model (listed_of bank) k.place m)) = e ∙ decides in
+        let h : answered d ≡ answered (decision_of k.policy k.input (with_model (listed_of bank) k.place m)) = e ∙ decides k.place in
         let same : d ≡ decision_of k.policy k.input (with_model (listed_of bank) k.place m) = cc in
         same ∙ rw (moved, decision-is lever v)

@@ -1,3 +1,2 @@
--- What is asked, and what a halving holds of it.
+-- What is asked.
 pub mod Asked
-pub mod Held

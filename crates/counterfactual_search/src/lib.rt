@@ -4,3 +4,4 @@
 
 pub mod far;
 pub mod search;
+mod side;

@@ -6,7 +6,9 @@ use Rattle.rules.specs.{Decide.stopped_by, Decide.decision_of, Levers.Question, 
 use Rattle.rules.specs.{Levers.boundary_refused, Win.win_levers, Win.if_on, Win.win_search, Win.win_for, Win.win_by, Win.win_in, Price.cost_under, Win.win_if_listed}
 use Rattle.rules.specs.{declared.records.KernelInput.KernelInput, declared.records.PolicySnapshot.PolicySnapshot, declared.decision.KernelReason.KernelReason}
 use Rattle.kernel_ranking.specs.declared.state.Top.{Top}
-use Rattle.kernel_stop.specs.{Stop.told_stop, declared.Stop.Stop, declared.Stop.TheVariants.Open, declared.Stop.TheVariants.By}
+use Rattle.kernel_stop.specs.{Stop.told_stop}
+use Rattle.std.specs.Prelude as declared
+use Rattle.std.specs.Prelude.{Some, None, is_some}
 use Rattle.live_slots.specs.Among.{among_of, Among}
 use Rattle.live_slots.proofs.Among.{first_read}
 use Rattle.call_checks.proofs.Finding.{found_at}
@@ -42,18 +44,27 @@ pub empty_room_lem : empty_room 1 ≡ room_of no_search
 unfolding room_of
 empty_room_lem = refl
 
-module _ (a : Question) (d : Decision) {s : Stop} (told : told_stop s ≡ stopped_by a.policy a.request) where
-  pub win-stopped : {r : KernelReason} → s ≡ By r → win_for a d ≡ boundary_of a.id d true no_search
-  unfolding win_for
-  win-stopped e = let h = by_high a.policy a.request told e in rw (ne_eqb (stopped_by a.policy a.request) 0 (λ z. omega arith))
+-- a request that isn't stopped is free
+pub free_by : (p : PolicySnapshot) (q : KernelInput) (o : declared.Option KernelReason) → false ≡ is_some o → told_stop o ≡ stopped_by p q → stopped_by p q ≡ 0
+free_by p q None e told = open_free p q told
+free_by p q (Some r) e told = cc
 
-  pub win-selected : s ≡ Open → selects a.id d ≡ true → win_for a d ≡ boundary_of a.id d false no_search
+module _ (a : Question) (d : Decision) where
+  pub win-stopped : (o : declared.Option KernelReason) → true ≡ is_some o → told_stop o ≡ stopped_by a.policy a.request
+      → win_for a d ≡ boundary_of a.id d true no_search
   unfolding win_for
-  win-selected e w = rw (eq-eqb (stopped_by a.policy a.request) 0 (open_free a.policy a.request told e), w)
+  win-stopped (Some r) e told =
+      let h = by_high a.policy a.request r told in
+      rw (ne_eqb (stopped_by a.policy a.request) 0 (λ z. omega arith))
+  win-stopped None e told = cc
 
-  pub win-sought : s ≡ Open → selects a.id d ≡ false → win_for a d ≡ boundary_of a.id d false (win_search a)
+  pub win-selected : stopped_by a.policy a.request ≡ 0 → selects a.id d ≡ true → win_for a d ≡ boundary_of a.id d false no_search
   unfolding win_for
-  win-sought e w = rw (eq-eqb (stopped_by a.policy a.request) 0 (open_free a.policy a.request told e), w)
+  win-selected e w = rw (eq-eqb (stopped_by a.policy a.request) 0 e, w)
+
+  pub win-sought : stopped_by a.policy a.request ≡ 0 → selects a.id d ≡ false → win_for a d ≡ boundary_of a.id d false (win_search a)
+  unfolding win_for
+  win-sought e w = rw (eq-eqb (stopped_by a.policy a.request) 0 e, w)
 
 -- ---- the id is listed, or not
 

@@ -3,9 +3,10 @@
 #![tactic(auto)]
 
 ghost use Rattle.std.specs.Prelude.{◌≡◌, []};
-ghost use Rattle.rules.specs.Refused.{bank_faults, answered};
+ghost use Rattle.rules.specs.Refused.{bank_faults};
 ghost use Rattle.rules.specs.Listing.{first_listed, place_of};
-ghost use Rattle.rules.specs.Numbers.{told_found, told_boundaries};
+ghost use Rattle.rules.specs.Numbers.{told_option};
+ghost use Rattle.rules.specs.Levers.{told_bounds};
 ghost use Rattle.rules.specs.Win.{win_search, win_in, what_would_win_of};
 ghost use Rattle.live_slots.specs.Among.{among_of, Among};
 ghost use Rattle.counterfactual_pass.specs.Asked.{question_in, Stands};
@@ -13,26 +14,26 @@ ghost use Rattle.counterfactual_answer.specs.Levers.{told_levers, room_of};
 
 use call_checks::listing::first_listed;
 use call_checks::refuse::bank_outcome;
-use counterfactual_answer::answer::{answered, refused};
+use counterfactual_answer::answer::answered;
 use counterfactual_answer::levers::{no_levers, plain, push};
 use counterfactual_four_levers::win::win_levers;
 use counterfactual_lever::ENABLED;
-use counterfactual_pass::pass::{Asked, asked_at, selected, wins_at};
+use counterfactual_pass::held::Held;
+use counterfactual_pass::pass::{Asked, asked_at, selected};
 use kernel_among::among::decide_among;
-use kernel_stop::{Stop, stopped_by};
+use kernel_stop::stopped_by;
 use rules::limits::RECORD_BYTES;
-use rules::{Boundaries, Found, KernelInput, Levers, Outcome, PolicySnapshot, Refusal};
+use rules::{Boundaries, KernelInput, Levers, PolicySnapshot, Refusal};
 
 // A model that is off is only switched on, at the second pass: no other lever makes it win.
 fn win_search(asked: Asked, bank: &[u8]) -> Levers
     requires { Stands asked bank.now }
     ensures { told_levers result ≡ room_of (win_search (question_in asked bank.now)) }
 {
-    let model = asked.model;
-    if model.enabled != 0 {
+    if asked.model.enabled != 0 {
         return win_levers(asked, bank);
     }
-    if wins_at(asked, ENABLED, 1) {
+    if Held::new(asked).wins(ENABLED, 1) {
         return push(no_levers(2), plain(ENABLED, 0, 1));
     }
     no_levers(2)
@@ -45,26 +46,25 @@ pub fn win_among(
     bank: &[u8],
     input: KernelInput,
     id: u32,
-    found: Found,
+    found: Option<u16>,
     many: u16,
-) -> Boundaries
-    requires { (told_found found ≡ answered (place_of (first_listed id (among_of many bank.now)))) × Among many bank.now × (bank_faults bank.now ≡ []) }
-    ensures { told_boundaries result ≡ win_in policy input (among_of many bank.now) id }
+) -> Result<Boundaries, Refusal>
+    requires { (told_option found ≡ place_of (first_listed id (among_of many bank.now))) × Among many bank.now × (bank_faults bank.now ≡ []) }
+    ensures { told_bounds result ≡ win_in policy input (among_of many bank.now) id }
 {
-    let Found::At(place) = found else {
-        return refused(Refusal::UnknownModel);
+    let Some(place) = found else {
+        return Err(Refusal::UnknownModel);
     };
     let opening = decide_among(policy, bank, input, many);
     let decision = opening.decision;
-    let stop = stopped_by(policy, input);
-    if let Stop::By(_) = stop {
-        return answered(id, decision, true, no_levers(1));
+    if stopped_by(policy, input).is_some() {
+        return Ok(answered(id, decision, true, no_levers(1)));
     }
     if selected(decision, id) {
-        return answered(id, decision, false, no_levers(1));
+        return Ok(answered(id, decision, false, no_levers(1)));
     }
     let asked = asked_at(policy, bank, input, id, place, opening.top);
-    answered(id, decision, false, win_search(asked, bank))
+    Ok(answered(id, decision, false, win_search(asked, bank)))
 }
 
 // `what_would_win`: the levers that would make a model selected, each alone. Refused: 1, 2, then 5 where the id isn't listed.
@@ -73,14 +73,10 @@ pub fn what_would_win(
     bank: &[u8],
     input: KernelInput,
     id: u32,
-) -> Boundaries
-    ensures { told_boundaries result ≡ what_would_win_of policy input bank.now id }
+) -> Result<Boundaries, Refusal>
+    ensures { told_bounds result ≡ what_would_win_of policy input bank.now id }
 {
-    let outcome = bank_outcome(bank.len());
-    if let Outcome::Refused(refusal) = outcome {
-        return refused(refusal);
-    }
+    bank_outcome(bank.len())?;
     let many = (bank.len() / RECORD_BYTES) as u16;
-    let found = first_listed(bank, id);
-    win_among(policy, bank, input, id, found, many)
+    win_among(policy, bank, input, id, first_listed(bank, id), many)
 }

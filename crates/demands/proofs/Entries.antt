@@ -1,11 +1,12 @@
 -- An answer's entries, lever by lever: what a lever's search found is what its entries say. Assumes nothing.
-use Rattle.rules.proofs.Kit.{ℕ, ◌-◌, ◌≤◌, ◌<◌, ◌≡◌, refl, sym, ap, subst, ◌∙◌, Bool, true, false, cond, false≢true, List, [], ◌∷◌, ◌++◌, append-nil, none}
+use Rattle.rules.proofs.Kit.{ℕ, ◌-◌, ◌≤◌, ◌<◌, ◌≡◌, refl, sym, ap, subst, ◌∙◌, Bool, true, false, cond, false≢true, List, [], ◌∷◌, ◌++◌, append-nil}
 use Rattle.rules.proofs.Kit.{le_refl, arith, length, replicate, take-append_seam, eqb}
+use Rattle.std.specs.Prelude.{Some, None}
+use Rattle.std.specs.Prelude as declared
 use Rattle.rules.specs.{Choice.equal, Refused.no_fault, Numbers.Entry, Numbers.Decision, Numbers.Boundary, Halving.Side, Halving.Lowest, Halving.first_tried}
-use Rattle.rules.specs.{Halving.search_of, Halving.far_end, Halving.search_after_far_end, Levers.Question, Levers.Sought, Levers.entry, Levers.plain, Levers.priced}
-use Rattle.rules.specs.{Levers.and_then, Levers.boundary_of, Levers.no_entry, declared.boundary.Bound.Bound, declared.boundary.Bound.TheVariants.At}
-use Rattle.rules.specs.{declared.boundary.Bound.TheVariants.Nothing, Printed.entries_of}
-use Rattle.demands.specs.{Exact.Range, Exact.TurnsOnce, Exact.BoundaryAt, Exact.SearchExact, Exact.FarEndExact, Demand3.quality_entry}
+use Rattle.rules.specs.{Halving.search_of, Halving.far_end, Halving.search_after_far_end, Levers.Question, Levers.Sought, Levers.plain, Levers.priced}
+use Rattle.rules.specs.{Levers.and_then, Levers.boundary_of, Levers.no_entry, Levers.at_boundary, declared.boundary.Bound.Bound, Printed.entries_of}
+use Rattle.demands.specs.{Exact.Range, Exact.TurnsOnce, Exact.BoundaryAt, Exact.FoundExact, Exact.FoundAfterFarEnd, Demand3.quality_entry}
 use Rattle.demands.specs.{Demand3.latency_entry, Demand3.price_entry, Demand3.ceiling_entry, Demand3.of_lever, Demand3.entries_for, Demand3.WinLever}
 use Rattle.demands.specs.{Demand3.MarginQuality, Demand3.MarginLever}
 use Rattle.demands.proofs.Exact.{at_itself, search-exact, margin-exact}
@@ -24,28 +25,22 @@ not_refused id d blocked s = refl
 
 -- what was found, as entries
 abbrev pub found : (ℕ → Entry) → Bound → List Entry
-found entry_at (At b n) = entry_at b ∷ []
-found entry_at (Nothing n) = []
-
-plain_found : (lever current : ℕ) (r : Bound) → (plain lever current r).entries ≡ found (λ b. entry lever current b none) r
-plain_found lever current (At b n) = refl
-plain_found lever current (Nothing n) = refl
-
-priced_found : (a : Question) (r : Bound) → (priced a r).entries ≡ found (price_entry a) r
-priced_found a (At b n) = refl
-priced_found a (Nothing n) = refl
+found entry_at r = at_boundary entry_at r
 
 -- what was found for one lever is among a lever's entries where it is that lever
 of_found : (k lever : ℕ) (entry_at : ℕ → Entry) → ((b : ℕ) → (entry_at b).lever ≡ lever) → (r : Bound) (rest : List Entry)
     → of_lever k (found entry_at r ++ rest) ≡ equal lever k (found entry_at r) [] ++ of_lever k rest
 unfolding of_lever equal
-of_found k lever entry_at h r rest = go (eqb lever k) refl r
+of_found k lever entry_at h r rest = go (eqb lever k) refl r.boundary
   where
-    go : (t : Bool) → eqb lever k ≡ t → (r : Bound) → of_lever k (found entry_at r ++ rest) ≡ cond t (found entry_at r) [] ++ of_lever k rest
-    go true e (At b n) = rw (h b, e)
-    go false e (At b n) = rw (h b, e)
-    go true e (Nothing n) = refl
-    go false e (Nothing n) = refl
+    es : declared.Option ℕ → List Entry
+    es o = found entry_at (record { boundary = o; passes = r.passes })
+
+    go : (t : Bool) → eqb lever k ≡ t → (o : declared.Option ℕ) → of_lever k (es o ++ rest) ≡ cond t (es o) [] ++ of_lever k rest
+    go true e (Some b) = rw (h b, e)
+    go false e (Some b) = rw (h b, e)
+    go true e None = refl
+    go false e None = refl
 
 -- an answer's entries are, lever by lever, what its four searches found
 pub record Answers (answer : Boundary) (a : Question) (one two three four : Bound) : Type 0 where
@@ -75,7 +70,7 @@ module _ (answer : Boundary) (a : Question) (one two three four : Bound) where
   pub answers : entries_of answer ≡ sought.entries → Answers answer a one two three four
   unfolding equal
   answers e =
-      let s : entries_of answer ≡ all = e ∙ rw (plain_found 1, plain_found 2, priced_found a, plain_found 4, append-nil) in
+      let s : entries_of answer ≡ all = e ∙ rw append-nil in
       let quality = ap (of_lever 1) s ∙ part 1 ∙ append-nil _ in
       let latency = ap (of_lever 2) s ∙ part 2 ∙ append-nil _ in
       let price = ap (of_lever 3) s ∙ part 3 ∙ append-nil _ in
@@ -105,28 +100,31 @@ module _ (entry_at : ℕ → Entry) (says : (b : ℕ) → (entry_at b).boundary 
   holds : (b : ℕ) → BoundaryAt side t r b → t b ≡ true
   holds b h = (h.exactly b h.in_range).1 (at_itself side b)
 
-  win-lever : (x : Bound) → SearchExact side t r x → WinLever (found entry_at x) entry_at side t r
-  win-lever (At b n) h =
+  abbrev entries_at : declared.Option ℕ → List Entry
+  entries_at o = found entry_at (record { boundary = o; passes = 0 })
+
+  win-lever : (o : declared.Option ℕ) → FoundExact side t r o → WinLever (entries_at o) entry_at side t r
+  win-lever (Some b) h =
       record {
         given = (λ e. (b, h.in_range, holds b h), λ s. (b, refl));
         missing = (λ e. absurd (nothing_there (sym e)), λ f. absurd (false≢true (sym (f b h.in_range) ∙ holds b h)));
         exact = λ c e. subst (BoundaryAt side t r) (one-boundary b c e) h;
       }
-  win-lever (Nothing n) h =
+  win-lever None h =
       record {
         given = (λ e. absurd (nothing_there e.1), λ s. absurd (false≢true (sym (h s.0 s.1) ∙ s.2)));
         missing = (λ e. h, λ f. refl);
         exact = λ c e. absurd (nothing_there e);
       }
 
-  margin-lever : (x : Bound) → FarEndExact side t r x → MarginLever (found entry_at x) entry_at side t r
-  margin-lever (At b n) (h, (v, i, f)) =
+  margin-lever : (o : declared.Option ℕ) → FoundAfterFarEnd side t r o → MarginLever (entries_at o) entry_at side t r
+  margin-lever (Some b) (h, (v, i, f)) =
       record {
         missing = (λ e. absurd (nothing_there (sym e)), λ g. absurd (false≢true (sym f ∙ g v i)));
         given = (λ e. (v, i, f), λ s. (b, refl));
         exact = λ c e. subst (BoundaryAt side t r) (one-boundary b c e) h;
       }
-  margin-lever (Nothing n) h =
+  margin-lever None h =
       record {
         missing = (λ e. h, λ f. refl);
         given = (λ e. absurd (nothing_there e.1), λ s. absurd (false≢true (sym s.2 ∙ h s.0 s.1)));
@@ -137,12 +135,12 @@ module _ {es : List Entry} {entry_at : ℕ → Entry} {side : Side} {t : ℕ →
     (turns : TurnsOnce side t r) where
   -- a lever of what would win
   pub won : es ≡ found entry_at (search_of side t r.low r.high) → WinLever es entry_at side t r
-  won e = rw e (win-lever entry_at says side t r (search_of side t r.low r.high) (search-exact side t r.low r.high turns))
+  won e = rw e (win-lever entry_at says side t r (search_of side t r.low r.high).boundary (search-exact side t r.low r.high turns))
 
   -- a lever of a margin that is searched after its far end
   pub kept : es ≡ found entry_at (search_after_far_end side t r.low r.high) → t (first_tried side r.low r.high) ≡ true
       → (r.high < r.low → t (far_end side r.low r.high) ≡ true) → MarginLever es entry_at side t r
-  kept e f n = rw e (margin-lever entry_at says side t r (search_after_far_end side t r.low r.high) (margin-exact side t r.low r.high turns f n))
+  kept e f n = rw e (margin-lever entry_at says side t r (search_after_far_end side t r.low r.high).boundary (margin-exact side t r.low r.high turns f n))
 
 -- the margin's quality, which is searched at once: the test holds at its near end, so a boundary is found
 pub kept_quality : {es : List Entry} {entry_at : ℕ → Entry} {t : ℕ → Bool} {r : Range} → ((b : ℕ) → (entry_at b).boundary ≡ b) → TurnsOnce Lowest t r

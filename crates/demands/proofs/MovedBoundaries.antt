@@ -3,13 +3,12 @@
 use Rattle.rules.proofs.Kit.{ℕ, ◌≡◌, refl, ap, ◌∙◌, Bool, true, false, List, [], ◌∷◌, map, Option, none, some, eqb}
 use Rattle.rules.specs.{Choice.pick, Records.Listed, Refused.fault, Refused.Fault, Refused.Faults, Refused.unless, Numbers.Decision, Numbers.Boundary}
 use Rattle.rules.specs.{Numbers.is_rejection, Price.Cost, Price.cost_under, Decide.stopped_by, Decide.decision_by, Listing.Reading, Listing.first_listed}
-use Rattle.rules.specs.{Levers.Question, Levers.selects, Levers.lever_at, Levers.decision_at, Levers.wins, Levers.Sought, Levers.priced, Levers.no_search}
+use Rattle.rules.specs.{Levers.Question, Levers.selects, Levers.lever_at, Levers.decision_at, Levers.wins, Levers.Sought, Levers.entry, Levers.no_search}
 use Rattle.rules.specs.{Levers.boundary_of, Levers.boundary_refused, Win.win_levers, Win.win_search, Win.win_for, Win.win_if_listed, Win.win_by, Win.what_would_win_over}
-use Rattle.rules.specs.{Margin.margin_levers, Margin.margin_if_listed, Margin.margin_for, Margin.margin_by, Margin.decision_margin_over, declared.boundary.Bound.Bound}
-use Rattle.rules.specs.{declared.boundary.Bound.TheVariants.At, declared.boundary.Bound.TheVariants.Nothing, declared.records.KernelInput.KernelInput}
-use Rattle.rules.specs.{declared.records.PolicySnapshot.PolicySnapshot}
+use Rattle.rules.specs.{Margin.margin_levers, Margin.margin_if_listed, Margin.margin_for, Margin.margin_by, Margin.decision_margin_over}
+use Rattle.rules.specs.{declared.records.KernelInput.KernelInput, declared.records.PolicySnapshot.PolicySnapshot}
 use Rattle.demands.specs.{Renamed.Rises, Renamed.renamed, Renamed.renamed_reading, Renamed.policy_at, Renamed.moved_decision, Renamed.moved_question}
-use Rattle.demands.specs.{Renamed.moved_beside, Renamed.moved_boundary, Renamed.OnlyPlaceAndEpoch, Renamed.OnlyInDecision, Demand3.question}
+use Rattle.demands.specs.{Renamed.moved_beside, Renamed.moved_boundary, Renamed.OnlyPlaceAndEpoch, Renamed.OnlyInDecision, Demand3.question, Demand3.price_entry}
 use Rattle.demands.proofs.{Renaming.same-stopped, Renaming.decision-moved, Renaming.only_moved, MovedAnswers.first-renamed, MovedAnswers.varied-renamed}
 
 module _ (f : ℕ → ℕ) (rises : Rises f) (epoch : ℕ) where
@@ -30,13 +29,12 @@ module _ (f : ℕ → ℕ) (rises : Rises f) (epoch : ℕ) where
     pub wins-moved : (lever : ℕ) → wins (moved_question f epoch a) lever ≡ wins a lever
     wins-moved lever = λ i v. win-moved lever v i
 
-    priced-moved : (b : Bound) → priced (moved_question f epoch a) b ≡ priced a b
-    priced-moved (At b n) = rw (at_moved 3 b)
-    priced-moved (Nothing n) = refl
+    price-moved : price_entry (moved_question f epoch a) ≡ price_entry a
+    price-moved = λ i v. entry 3 1000000 v (some (at_moved 3 v i).cost)
 
     win-levers : win_levers (moved_question f epoch a) ≡ win_levers a
     unfolding win_levers
-    win-levers = rw (wins-moved 1, wins-moved 2, priced-moved, wins-moved 3, wins-moved 4)
+    win-levers = rw (wins-moved 1, wins-moved 2, price-moved, wins-moved 3, wins-moved 4)
 
     win-search : win_search (moved_question f epoch a) ≡ win_search a
     unfolding win_search
@@ -44,7 +42,7 @@ module _ (f : ℕ → ℕ) (rises : Rises f) (epoch : ℕ) where
 
     margin-levers : margin_levers (moved_question f epoch a) ≡ margin_levers a
     unfolding margin_levers
-    margin-levers = rw (wins-moved 1, wins-moved 2, priced-moved, wins-moved 3, wins-moved 4)
+    margin-levers = rw (wins-moved 1, wins-moved 2, price-moved, wins-moved 3, wins-moved 4)
 
     -- ---- so the answer's decision moves, and nothing else
 

@@ -2,26 +2,31 @@
 -- repeated ids, and by any rule of cost. Assumed for the bounds: latency, quality and ceiling of the model that is varied within their fields, as
 -- those of a bank of bytes are.
 use Rattle.rules.proofs.Kit.{ℕ, ◌+◌, ◌-◌, ◌*◌, ◌^◌, ◌≤◌, ◌<◌, ◌≡◌, refl, ap, ◌∙◌, Bool, true, false, cond, List, [], ◌∷◌, Option, none, some, arith, ne_eqb}
-use Rattle.rules.proofs.Kit.{eqb}
+use Rattle.rules.proofs.Kit.{eqb, length}
+use Rattle.std.specs.Prelude.{Some, None}
+use Rattle.std.specs.Prelude as declared
 use Rattle.rules.specs.{Choice.pick, Choice.equal, Order.Each, Records.Listed, Records.listed_of, Refused.Faults, Refused.bank_faults, Refused.fault}
 use Rattle.rules.specs.{Refused.unless, Numbers.Decision, Numbers.Boundary, Numbers.is_rejection, Price.Cost, Price.cost_under, Decide.stopped_by}
 use Rattle.rules.specs.{Decide.decision_by, Decide.decision_of, Listing.Reading, Listing.every_record, Listing.first_listed, Halving.Lowest, Halving.Highest}
-use Rattle.rules.specs.{Halving.passes_of, Levers.Question, Levers.selects, Levers.wins, Levers.Sought, Levers.priced, Levers.no_search, Levers.boundary_of}
-use Rattle.rules.specs.{Levers.boundary_refused, Win.if_on, Win.win_levers, Win.win_search, Win.win_for, Win.win_if_listed, Win.win_by, Win.win_in, Win.what_would_win_over}
+use Rattle.rules.specs.{Halving.passes_of, Levers.Question, Levers.selects, Levers.wins, Levers.Sought, Levers.at_boundary, Levers.priced, Levers.no_search}
+use Rattle.rules.specs.{Levers.boundary_of, Levers.boundary_refused, Win.if_on, Win.win_levers, Win.win_search, Win.win_for, Win.win_if_listed, Win.win_by, Win.win_in, Win.what_would_win_over}
 use Rattle.rules.specs.{Win.what_would_win_of, Margin.margin_levers, Margin.margin_if_listed, Margin.margin_for, Margin.margin_by, Margin.margin_in}
-use Rattle.rules.specs.{Margin.decision_margin_over, Margin.decision_margin_of, declared.boundary.Bound.Bound, declared.boundary.Bound.TheVariants.At}
-use Rattle.rules.specs.{declared.boundary.Bound.TheVariants.Nothing, declared.records.KernelInput.KernelInput, declared.records.PolicySnapshot.PolicySnapshot}
+use Rattle.rules.specs.{Margin.decision_margin_over, Margin.decision_margin_of, declared.boundary.Bound.Bound}
+use Rattle.rules.specs.{declared.records.KernelInput.KernelInput, declared.records.PolicySnapshot.PolicySnapshot}
 use Rattle.rules.proofs.Halvings.{plain_passes}
-use Rattle.demands.specs.Demand3.{win_price, margin_price, question, Unselected, SwitchedOn, passes_with_cost, halving_in, halving_after_far_end, win_passes}
-use Rattle.demands.specs.Demand3.{margin_passes, passes_to_win, passes_if_listed, passes_to_win_in, passes_to_win_over, passes_to_win_of, passes_to_keep_in}
+use Rattle.demands.specs.Demand3.{win_price, margin_price, price_entry, question, Unselected, SwitchedOn, cost_passes, passes_with_cost, halving_in, halving_after_far_end}
+use Rattle.demands.specs.Demand3.{win_passes, margin_passes, passes_to_win, passes_if_listed, passes_to_win_in, passes_to_win_over, passes_to_win_of, passes_to_keep_in}
 use Rattle.demands.specs.Demand3.{passes_to_keep_over, passes_to_keep_of, most_to_win, most_for_margin, most_for_margin_within, AreBytes, BpsWithin}
 use Rattle.demands.proofs.{Exact.search-short, Exact.margin-short, Widest.Narrow, Widest.bytes_narrow, Widest.first_of}
 
 -- ---- the passes of four levers are those of their searches
 
 priced_passes : (a : Question) (r : Bound) → (priced a r).passes ≡ passes_with_cost r
-priced_passes a (At b n) = refl
-priced_passes a (Nothing n) = refl
+priced_passes a r = go r.boundary
+  where
+    go : (o : declared.Option ℕ) → r.passes + length (at_boundary (price_entry a) (record { boundary = o; passes = r.passes })) ≡ r.passes + cost_passes o
+    go (Some b) = refl
+    go None = refl
 
 win_levers_passes : (a : Question) → 1 + (win_levers a).passes ≡ win_passes a
 unfolding win_levers
@@ -130,8 +135,11 @@ module _ (p : PolicySnapshot) (q : KernelInput) (bank : List ℕ) where
 -- ---- how many these are
 
 with_cost : (r : Bound) → passes_with_cost r ≤ passes_of r + 1
-with_cost (At b n) = omega arith
-with_cost (Nothing n) = omega arith
+with_cost r = omega (arith, go r.boundary)
+  where
+    go : (o : declared.Option ℕ) → cost_passes o ≤ 1
+    go (Some b) = omega arith
+    go None = omega arith
 
 -- quality and ceiling in 14 bits, latency in 32, price scale in 20
 win_passes_few : (a : Question) → a.model.p95_latency_ms ≤ 2 ^ 32 - 1 → win_passes a ≤ most_to_win

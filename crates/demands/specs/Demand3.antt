@@ -1,6 +1,7 @@
 -- DEMAND 3 in words: the searched settings, and what it is for the answers of `what_would_win` and `decision_margin` to be exact, by any rule of
 -- cost; the calls' own is that of their policy's rounding, `cost_under p`.
-use Rattle.std.specs.Prelude.{ℕ, ◌+◌, ◌-◌, ◌^◌, ◌≤◌, ◌<◌, ◌≡◌, Bool, true, false, cond, List, [], ◌∷◌, ◌++◌, ◌↔◌}
+use Rattle.std.specs.Prelude.{ℕ, ◌+◌, ◌-◌, ◌^◌, ◌≤◌, ◌<◌, ◌≡◌, Bool, true, false, cond, List, [], ◌∷◌, ◌++◌, ◌↔◌, Some, None}
+use Rattle.std.specs.Prelude as declared
 use Rattle.std.proofs.Math.Option.{Option, none, some}
 use Rattle.rules.specs.Choice.{equal}
 use Rattle.rules.specs.Order.{Each}
@@ -14,7 +15,6 @@ use Rattle.rules.specs.Halving.{Side, Lowest, Highest, search_of, search_after_f
 use Rattle.rules.specs.Printed.{entries_of}
 use Rattle.rules.specs.Levers.{Question, selects, decision_at, wins, entry}
 use Rattle.rules.specs.declared.boundary.Bound.{Bound}
-use Rattle.rules.specs.declared.boundary.Bound.TheVariants.{At, Nothing}
 use Rattle.rules.specs.declared.records.KernelModel.{KernelModel}
 use Rattle.rules.specs.declared.records.KernelInput.{KernelInput}
 use Rattle.rules.specs.declared.records.PolicySnapshot.{PolicySnapshot}
@@ -150,9 +150,12 @@ pub record MarginOfChoice (costs : Cost) (p : PolicySnapshot) (q : KernelInput) 
 -- ---- passes
 
 -- A price's search with the decision for its cost, which is made where a boundary was found: one pass more
+abbrev pub cost_passes : declared.Option ℕ → ℕ
+cost_passes (Some b) = 1
+cost_passes None = 0
+
 abbrev pub passes_with_cost : Bound → ℕ
-passes_with_cost (At b n) = n + 1
-passes_with_cost (Nothing n) = n
+passes_with_cost found = found.passes + cost_passes found.boundary
 
 -- The published halving over a range, and after the range's far end
 abbrev pub halving_in : Side → (ℕ → Bool) → Range → Bound

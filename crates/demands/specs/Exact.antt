@@ -1,9 +1,8 @@
 -- Words for searches, over any test of a setting: a range of settings, which of two is more favourable, a test that turns once, and
 -- what makes a boundary exact.
-use Rattle.std.specs.Prelude.{ℕ, ◌≤◌, ◌≡◌, Bool, true, false, ◌↔◌}
+use Rattle.std.specs.Prelude.{ℕ, ◌≤◌, ◌≡◌, Bool, true, false, ◌↔◌, Option, Some, None}
 use Rattle.rules.specs.Halving.{Side, Lowest, Highest}
 use Rattle.rules.specs.declared.boundary.Bound.{Bound}
-use Rattle.rules.specs.declared.boundary.Bound.TheVariants.{At, Nothing}
 
 -- The settings from low to high, every one of them, both ends included
 pub record Range : Type 0 where
@@ -44,12 +43,18 @@ abbrev pub NotEverywhere : (ℕ → Bool) → Range → Type 0
 NotEverywhere test r = (v : ℕ) × In r v × (test v ≡ false)
 
 -- A search is exact: what it finds is the boundary, and it finds nothing where the test holds nowhere
+abbrev pub FoundExact : Side → (ℕ → Bool) → Range → Option ℕ → Type 0
+FoundExact side test r (Some b) = BoundaryAt side test r b
+FoundExact side test r None = Nowhere test r
+
 abbrev pub SearchExact : Side → (ℕ → Bool) → Range → Bound → Type 0
-SearchExact side test r (At b n) = BoundaryAt side test r b
-SearchExact side test r (Nothing n) = Nowhere test r
+SearchExact side test r found = FoundExact side test r found.boundary
 
 -- A search after the far end is exact: what it finds is the boundary of a test that fails somewhere, and it finds nothing where the test
 -- holds everywhere
+abbrev pub FoundAfterFarEnd : Side → (ℕ → Bool) → Range → Option ℕ → Type 0
+FoundAfterFarEnd side test r (Some b) = BoundaryAt side test r b × NotEverywhere test r
+FoundAfterFarEnd side test r None = Everywhere test r
+
 abbrev pub FarEndExact : Side → (ℕ → Bool) → Range → Bound → Type 0
-FarEndExact side test r (At b n) = BoundaryAt side test r b × NotEverywhere test r
-FarEndExact side test r (Nothing n) = Everywhere test r
+FarEndExact side test r found = FoundAfterFarEnd side test r found.boundary

@@ -1,40 +1,35 @@
--- Bytes stored one by one make the rule's patched list, and patches join. Assumes nothing.
-use Rattle.rules.proofs.Kit.{ℕ, suc, ◌+◌, ◌≤◌, ◌<◌, List, [], ◌∷◌, ◌++◌, append_assoc, ◌≡◌, refl, ap, ◌∙◌, arith, add-suc, add_assoc, add-one, length, take}
+-- Bytes stored one by one, or copied to a part, make the rule's patched list, and patches join. Assumes nothing.
+use Rattle.rules.proofs.Kit.{ℕ, ◌+◌, ◌-◌, ◌≤◌, ◌<◌, List, [], ◌∷◌, ◌++◌, append_assoc, ◌≡◌, ◌∙◌, arith, add_assoc, length, take}
 use Rattle.rules.proofs.Kit.{drop, set, length-append, length-take, length-drop, sets, sets-eq, take_at, drop-append-add, drop-drop}
 use lib.Seq.{length-sets}
+use borrow.Rule.Slice.PartMut.{put_mid}
+use Rattle.std.specs.Int.{bytes_low_first}
 use Rattle.rules.specs.Bytes.{bytes_of}
 use Rattle.endian_writing.specs.Put.{patched}
-use Rattle.endian_writing.proofs.Bytes.{one_byte}
-
--- the stores of code: bytes from `at + k` on, and from `at` on, the first apart as code stores it
-abbrev pub stored_from : List ℕ → ℕ → ℕ → List ℕ → List ℕ
-stored_from d at k [] = d
-stored_from d at k (b ∷ bs) = stored_from (set d (at + k) b) at (suc k) bs
-
-abbrev pub stored : List ℕ → ℕ → List ℕ → List ℕ
-stored d at [] = d
-stored d at (b ∷ bs) = stored_from (set d at b) at 1 bs
-
-from_sets : (d : List ℕ) (at k : ℕ) (bs : List ℕ) → stored_from d at k bs ≡ sets d (at + k) bs
-from_sets d at k [] = refl
-from_sets d at k (b ∷ bs) =
-    from_sets (set d (at + k) b) at (suc k) bs ∙ ap (λ (i : ℕ). sets (set d (at + k) b) i bs) (add-suc at k)
-
-stored_sets : (d : List ℕ) (at : ℕ) (bs : List ℕ) → stored d at bs ≡ sets d at bs
-stored_sets d at [] = refl
-stored_sets d at (b ∷ bs) = from_sets (set d at b) at 1 bs ∙ ap (λ (i : ℕ). sets (set d at b) i bs) (add-one at)
+use Rattle.endian_writing.proofs.Bytes.{length_bytes, low_first, one_byte}
 
 -- Storing keeps the length, so that after some bytes of a number the place of the next one is still there
-pub length_stored : (d : List ℕ) (at : ℕ) (bs : List ℕ) → length (stored d at bs) ≡ length d
-length_stored d at bs = ap length (stored_sets d at bs) ∙ length-sets d at bs
+pub length_stored : (d : List ℕ) (at : ℕ) (bs : List ℕ) → length (sets d at bs) ≡ length d
+length_stored d at bs = length-sets d at bs
 
-pub next_place : (d : List ℕ) (at w x k : ℕ) → at + w ≤ length d → k < w → at + k < length (stored d at (bytes_of k x))
+pub next_place : (d : List ℕ) (at w x k : ℕ) → at + w ≤ length d → k < w → at + k < length (sets d at (bytes_of k x))
 next_place d at w x k h l = rw (length_stored d at (bytes_of k x)) (omega arith)
 
 -- BYTES STORED ONE AFTER THE OTHER ARE A PATCH
-pub stored_patch : (d : List ℕ) (at : ℕ) (bs : List ℕ) → at + length bs ≤ length d → stored d at bs ≡ patched d at bs
+pub stored_patch : (d : List ℕ) (at : ℕ) (bs : List ℕ) → at + length bs ≤ length d → sets d at bs ≡ patched d at bs
 unfolding patched
-stored_patch d at bs h = stored_sets d at bs ∙ sets-eq bs d at h ∙ append_assoc (take at d) bs (drop (at + length bs) d)
+stored_patch d at bs h = sets-eq bs d at h ∙ append_assoc (take at d) bs (drop (at + length bs) d)
+
+-- A PART WRITTEN WHOLE IS A PATCH, as code goes to the part, and holds the bytes in it
+pub part_patch : (d ys bs : List ℕ) (at w : ℕ) → ys ≡ bs → length bs ≡ w → put_mid at (at + w - at) d ys ≡ patched d at bs
+unfolding patched
+part_patch d ys bs at w e l =
+    let k : at + w - at ≡ length bs = omega (arith, l) in
+    rw (e, k, drop-drop)
+
+-- A number so written
+pub number_patch : (d ys : List ℕ) (at w x : ℕ) → ys ≡ bytes_low_first 0 w x → put_mid at (at + w - at) d ys ≡ patched d at (bytes_of w x)
+number_patch d ys at w x e = part_patch d ys (bytes_of w x) at w (e ∙ low_first w x) (length_bytes w x)
 
 -- A patch keeps the length
 pub length-patched : (d : List ℕ) (at : ℕ) (bs : List ℕ) → at + length bs ≤ length d → length (patched d at bs) ≡ length d

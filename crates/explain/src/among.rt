@@ -6,8 +6,8 @@ ghost use Rattle.live_slots.specs.Among.{among_of, Among};
 ghost use Rattle.explain.specs.Entries.{unrefused};
 
 use crate::list::{needed, put_explanation};
-use kernel_among::among::decide_among;
-use rules::{KernelInput, PolicySnapshot, Prescribed, Refusal};
+use kernel_among::among::decision_among;
+use rules::{KernelDecision, KernelInput, PolicySnapshot, Refusal};
 
 // The decision over so many records, and in the list an entry for each. Refused: 4 where these need more room.
 pub fn explain_among(
@@ -16,16 +16,14 @@ pub fn explain_among(
     input: KernelInput,
     many: u16,
     list: &mut [u8],
-) -> Prescribed
+) -> Result<KernelDecision, Refusal>
     requires { Among many bank.now }
     ensures answer { told_prescribed result ≡ explain_over policy input (unrefused (among_of many bank.now)) list.old }
     ensures bytes { list.new ≡ explain_list_over policy input (unrefused (among_of many bank.now)) list.old }
 {
     if list.len() < needed(policy, input, many) {
-        return Prescribed::Refused(Refusal::NoRoom);
+        return Err(Refusal::NoRoom);
     }
     put_explanation(policy, bank, input, many, list);
-    let decided = decide_among(policy, bank, input, many);
-    let decision = decided.decision;
-    Prescribed::Decided(decision)
+    Ok(decision_among(policy, bank, input, many))
 }

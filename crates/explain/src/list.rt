@@ -11,19 +11,17 @@ use bank::unchecked::model_at;
 use explain_entries::entry::{entry_bytes, verdict_numbers};
 use explain_entries::verdict::candidate_verdict;
 use kernel_scan::pricing_for;
-use kernel_stop::{Stop, stopped_by};
+use kernel_stop::stopped_by;
 use rules::limits::{EXPLANATION_BYTES, RECORD_BYTES};
 use rules::{KernelInput, PolicySnapshot};
 use splice::put_bytes;
 
 // Whether a slot with this id has no entry, of so many records that are read.
+#[tactic(auto, unfolding(crate::specs::Entries::is_skipped))]
 fn is_skipped(many: u16, slots: usize, id: u32) -> bool
     ensures { result ≡ is_skipped many slots id }
 {
-    if (many as usize) < slots {
-        return id == 0;
-    }
-    false
+    usize::from(many) < slots && id == 0
 }
 
 // The entry of each record that is read, in the order of the bank and without a gap, from the start of a list on. The place is the slot.
@@ -33,12 +31,10 @@ fn put_entries(policy: PolicySnapshot, bank: &[u8], input: KernelInput, many: u1
 {
     let pricing = pricing_for(policy, input);
     let slots = bank.len() / RECORD_BYTES;
-    let mut i = 0;
     let mut entries = 0;
-    while i < slots {
+    for i in 0..slots {
         let place = i as u16;
         let model = model_at(bank, i);
-        i += 1;
         if is_skipped(many, slots, model.model_id) {
             continue;
         }
@@ -60,8 +56,7 @@ pub fn put_explanation(
     requires { Among many bank.now × (length (explanation_of policy input (among_of many bank.now)) ≤ length list.old) }
     ensures { list.new ≡ filled (explanation_of policy input (among_of many bank.now)) list.old }
 {
-    let stop = stopped_by(policy, input);
-    if let Stop::By(_) = stop {
+    if stopped_by(policy, input).is_some() {
         return;
     }
     put_entries(policy, bank, input, many, list);
@@ -71,9 +66,8 @@ pub fn put_explanation(
 pub fn needed(policy: PolicySnapshot, input: KernelInput, many: u16) -> usize
     ensures { result ≡ bytes_for policy input many }
 {
-    let stop = stopped_by(policy, input);
-    if let Stop::By(_) = stop {
+    if stopped_by(policy, input).is_some() {
         return 0;
     }
-    EXPLANATION_BYTES * (many as usize)
+    EXPLANATION_BYTES * usize::from(many)
 }

@@ -4,7 +4,6 @@ ghost use Rattle.rules.specs.Numbers.{two_numbers, told_terms, told_verdict};
 ghost use Rattle.rules.specs.Explain.{explanation_record};
 ghost use Rattle.explain_entries.specs.Entry.{verdict_numbers, judged_entry};
 
-use endian_signs::signed_bits;
 use endian_writing::{put_wide, put16, put32, put64};
 use rules::limits::EXPLANATION_BYTES;
 use rules::{CandidateVerdict, KernelModel, UtilityTerms, Wide};
@@ -26,6 +25,7 @@ pub struct VerdictNumbers {
 }
 
 // Verdicts 1 and 2 carry two numbers; the rest stays 0.
+#[tactic(auto, unfolding(rules::specs::Wide::limbs))]
 fn two_numbers(kind: u8, gate: u8, first: u64, second: u64) -> VerdictNumbers
     ensures { verdict_numbers result ≡ two_numbers kind gate first second }
 {
@@ -44,16 +44,13 @@ fn two_numbers(kind: u8, gate: u8, first: u64, second: u64) -> VerdictNumbers
 fn all_terms(kind: u8, terms: UtilityTerms) -> VerdictNumbers
     ensures { verdict_numbers result ≡ told_terms kind terms }
 {
-    let first = terms.quality_adjusted;
-    let second = terms.risk_penalty;
-    let latency = terms.latency_penalty;
     VerdictNumbers {
         kind,
         gate: 0,
-        first,
-        second,
+        first: terms.quality_adjusted,
+        second: terms.risk_penalty,
         cost: terms.cost_microunits,
-        latency,
+        latency: terms.latency_penalty,
         utility: terms.utility,
     }
 }
@@ -81,18 +78,15 @@ pub fn verdict_numbers(verdict: CandidateVerdict) -> VerdictNumbers
 pub fn entry_bytes(place: u16, model: KernelModel, told: VerdictNumbers) -> EntryBytes
     ensures { result ≡ explanation_record (judged_entry place model (verdict_numbers told)) }
 {
-    let first = told.first;
-    let second = told.second;
-    let latency = told.latency;
     let mut a = [0u8; EXPLANATION_BYTES];
     put32(&mut a, 0, model.model_id);
     put16(&mut a, 4, place);
     a[6] = told.kind;
     a[7] = told.gate;
-    put_wide(&mut a, 8, first);
-    put_wide(&mut a, 24, second);
+    put_wide(&mut a, 8, told.first);
+    put_wide(&mut a, 24, told.second);
     put64(&mut a, 40, told.cost);
-    put_wide(&mut a, 48, latency);
-    put64(&mut a, 64, signed_bits(told.utility));
+    put_wide(&mut a, 48, told.latency);
+    put64(&mut a, 64, told.utility.cast_unsigned());
     a
 }

@@ -25,6 +25,7 @@ fn gate_verdict(gate: u8, detail: GateDetail) -> CandidateVerdict
 }
 
 // By the score: not positive, or eligible.
+#[tactic(auto, unfolding(kernel_verdict::specs::Verdict::by_score, crate::specs::Scanned::scanned, rules::specs::Choice::below))]
 fn verdict_by_score(input: KernelInput, model: KernelModel, scored: ScoredTerms) -> CandidateVerdict
     ensures { told_verdict result ≡ scanned input model (by_score scored) }
 {
@@ -36,7 +37,9 @@ fn verdict_by_score(input: KernelInput, model: KernelModel, scored: ScoredTerms)
     }
 }
 
-// A gate that fails, then the budget, then the utility: `Pricing::verdict`.
+// A gate that fails, then the budget, then the utility: `Pricing::verdict`. In a function of its own the loop of `explain` would take a quarter more
+// instructions.
+#[inline(always)]
 pub fn candidate_verdict(
     pricing: Pricing,
     input: KernelInput,
@@ -49,8 +52,7 @@ pub fn candidate_verdict(
     if 0 < gate {
         return gate_verdict(gate, gate_detail(model, input, gate));
     }
-    let rounding = pricing.rounding;
-    let cost = pricing_cost::cost_alone(rounding, model, input);
+    let cost = pricing_cost::cost_alone(pricing.rounding, model, input);
     if input.budget_limit_microunits < cost {
         return CandidateVerdict::OverBudget {
             cost_microunits: cost,
@@ -64,27 +66,10 @@ pub fn candidate_verdict(
     )
 }
 
-// The same of one record by itself, for the desk. It is a function of its own, since with a second caller the one above would no longer be compiled
-// into the loop of `explain`, which then takes a quarter more instructions.
+// The same of one record by itself, for the desk.
 pub fn verdict_alone(pricing: Pricing, input: KernelInput, model: KernelModel) -> CandidateVerdict
     requires { Settled pricing }
     ensures { told_verdict result ≡ scanned input model (verdict_in pricing input model) }
 {
-    let gate = first_failed_gate(model, input);
-    if 0 < gate {
-        return gate_verdict(gate, gate_detail(model, input, gate));
-    }
-    let rounding = pricing.rounding;
-    let cost = pricing_cost::cost_alone(rounding, model, input);
-    if input.budget_limit_microunits < cost {
-        return CandidateVerdict::OverBudget {
-            cost_microunits: cost,
-            limit_microunits: input.budget_limit_microunits,
-        };
-    }
-    verdict_by_score(
-        input,
-        model,
-        pricing_terms::terms_wide(pricing, model, cost),
-    )
+    candidate_verdict(pricing, input, model)
 }

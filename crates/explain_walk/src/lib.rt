@@ -5,7 +5,6 @@ ghost use Rattle.std.specs.Prelude.{◌≡◌};
 ghost use Rattle.rules.specs.Numbers.{told_next};
 ghost use Rattle.rules.specs.Explain.{next_eligible_of};
 
-use rules::NextEligible;
 use rules::limits::EXPLANATION_BYTES;
 
 // The verdict of an eligible entry, and where it stands in one.
@@ -15,16 +14,13 @@ const VERDICT_AT: usize = 6;
 
 // `Explanation::eligible`, one step of it: the place of the first eligible entry at or after a place. Bytes after the
 // last whole entry are none.
-pub fn next_eligible(list: &[u8], from: usize) -> NextEligible
+pub fn next_eligible(list: &[u8], from: usize) -> Option<usize>
     ensures { told_next result ≡ next_eligible_of list.now from }
 {
-    let n = list.len() / EXPLANATION_BYTES;
-    let mut place = from;
-    while place < n {
+    for place in from..list.len() / EXPLANATION_BYTES {
         if list[EXPLANATION_BYTES * place + VERDICT_AT] == ELIGIBLE {
-            return NextEligible::At(place);
+            return Some(place);
         }
-        place += 1;
     }
-    NextEligible::NoMore
+    None
 }

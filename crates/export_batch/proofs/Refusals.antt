@@ -7,9 +7,9 @@ use Rattle.rules.specs.{Refused.refuse_if, Refused.first_fault, Refused.unless}
 use Rattle.rules.specs.{Refused.length_faults, Refused.size_faults, Refused.room_faults, Refused.told_refusal, Refused.told_outcome, Decide.request_faults}
 use Rattle.rules.specs.{Batch.requests_faults, Batch.batch_faults_over, Listing.every_record, Decide.too_high, Stored.policy_size_faults}
 use Rattle.rules.specs.{Stored.rounding_faults, Stored.policy_byte_faults}
-use Rattle.rules.specs.{declared.records.KernelInput.KernelInput, declared.refusal.Refusal.Refusal, declared.refusal.Outcome.Outcome}
-use Rattle.rules.specs.{declared.refusal.Outcome.TheVariants.Answered, declared.refusal.Outcome.TheVariants.Refused}
-use Rattle.rules.proofs.Faults.{none_first, none_after, below_none, none_told, unless_refused, append_refused, room_passed, few_records}
+use Rattle.rules.specs.{declared.records.KernelInput.KernelInput, declared.refusal.Refusal.Refusal}
+use Rattle.std.specs.Prelude.{Option, Some, None, Ok, Err, ⊤}
+use Rattle.rules.proofs.Faults.{none_first, none_after, below_none, passed, unless_refused, append_refused, room_passed, few_records}
 use Rattle.unpacking_policy.proofs.Policies.{policy_sized}
 use Rattle.export_checks.specs.Checks.{word_at}
 use Rattle.export_checks.proofs.Tests.{size_is}
@@ -34,11 +34,10 @@ each_both P [] gs h k = k
 each_both P (f ∷ fs) gs h k = (h.0, each_both P fs gs h.1 k)
 
 -- WHAT IS SAID OF EVERY ONE IS SAID OF THE FIRST
-pub each_first : {o : Outcome} {r : Refusal} (P : Fault → Type 0) (fs : Faults) → Each P fs → o ≡ Refused r → told_outcome o ≡ first_fault fs
-    → P (told_refusal r)
+pub each_first : (r : Refusal) (P : Fault → Type 0) (fs : Faults) → Each P fs → told_outcome (Err r) ≡ first_fault fs → P (told_refusal r)
 unfolding Each first_fault told_outcome
-each_first P [] h e told = let k = sym (ap told_outcome e) ∙ told in absurd (let z : ◌≡◌ {A = ℕ} 0 1 = cc in omega arith)
-each_first {o} {r} P (f ∷ fs) h e told = let k = sym (ap told_outcome e) ∙ told in let s : told_refusal r ≡ f = cc in rw s h.0
+each_first r P [] h told = absurd (let z : ◌≡◌ {A = ℕ} 0 1 = cc in omega arith)
+each_first r P (f ∷ fs) h told = let s : told_refusal r ≡ f = cc in rw s h.0
 
 -- ---- the word of the first
 
@@ -46,24 +45,27 @@ each_first {o} {r} P (f ∷ fs) h e told = let k = sym (ap told_outcome e) ∙ t
 abbrev pub own_word : Fault → ℕ
 own_word f = word_at f.place f
 
+abbrev pub first_word : Faults → Option ℕ
+first_word fs = unless fs (λ f. Some (own_word f)) None
+
 abbrev pub Placeless : Fault → Type 0
 Placeless f = f.place ≡ 0
 
 module _ (hs : Faults) (out : List ℕ) (a : ℕ × List ℕ) where
   -- A REFUSAL THAT TELLS NO PLACE, of tests that come first
-  pub row-refused : {o : Outcome} {r : Refusal} {w : ℕ} (fs : Faults) → Each Placeless fs → o ≡ Refused r → told_outcome o ≡ first_fault fs
-      → told_outcome (Refused r) ≡ first_fault hs → w ≡ word_at 0 (told_refusal r) → (w, out) ≡ unless hs (λ f. (own_word f, out)) a
-  row-refused {o} {r} {w} fs each e told first is =
-      let own : w ≡ own_word (told_refusal r) = is ∙ rw (each_first Placeless fs each e told) in
+  pub row-refused : {w : ℕ} (r : Refusal) (fs : Faults) → Each Placeless fs → told_outcome (Err r) ≡ first_fault fs
+      → told_outcome (Err r) ≡ first_fault hs → w ≡ word_at 0 (told_refusal r) → (w, out) ≡ unless hs (λ f. (own_word f, out)) a
+  row-refused {w} r fs each told first is =
+      let own : w ≡ own_word (told_refusal r) = is ∙ rw (each_first r Placeless fs each told) in
       rw own (sym (unless_refused hs (λ f. (own_word f, out)) a refl first))
 
-  -- A WORD that isn't 0 is that of a fault
-  pub row-bad : {gs : Faults} {w : ℕ} → hs ≡ gs → w ≡ unless gs own_word 0 → (w ≡ 0 → ⊥) → (w, out) ≡ unless hs (λ f. (own_word f, out)) a
-  row-bad {gs} {w} same is some = rw same (go gs is)
+  -- A WORD is that of a fault
+  pub row-bad : {gs : Faults} {w : ℕ} → hs ≡ gs → Some w ≡ first_word gs → (w, out) ≡ unless hs (λ f. (own_word f, out)) a
+  row-bad {gs} {w} same is = rw same (go gs is)
     where
-      go : (fs : Faults) → w ≡ unless fs own_word 0 → (w, out) ≡ unless fs (λ f. (own_word f, out)) a
-      go [] i = absurd (some i)
-      go (f ∷ fs) i = rw i
+      go : (fs : Faults) → Some w ≡ first_word fs → (w, out) ≡ unless fs (λ f. (own_word f, out)) a
+      go [] i = cc
+      go (f ∷ fs) i = let e : w ≡ own_word f = cc in rw e
 
   -- NO FAULT: what is owed
   pub row-passed : {p : ℕ × List ℕ} → hs ≡ [] → p ≡ a → p ≡ unless hs (λ f. (own_word f, out)) a
@@ -109,24 +111,10 @@ request_each P q place h =
     its : (field value : ℕ) → Each P (too_high place field value)
     its field value = each_test P (ltb 10000 value) (input_fault field value place) (h field value)
 
-abbrev Three : Fault → Type 0
-Three f = f.number ≡ 3
-
-requests_three : (place : ℕ) (qs : List KernelInput) → Each Three (requests_faults place qs)
-unfolding Each requests_faults
-requests_three place [] = tt
-requests_three place (q ∷ qs) =
-    each_both Three (request_faults q place) (requests_faults (suc place) qs) (request_each Three q place (λ field value. refl))
-    (requests_three (suc place) qs)
-
--- A WORD OF 0 says that no request has a fault
-pub no_bad : {w : ℕ} (qs : List KernelInput) → w ≡ unless (requests_faults 0 qs) own_word 0 → w ≡ 0 → requests_faults 0 qs ≡ []
-unfolding Each
-no_bad {w} qs is e = go (requests_faults 0 qs) (requests_three 0 qs) (sym is ∙ e)
-  where
-    go : (fs : Faults) → Each Three fs → unless fs own_word 0 ≡ 0 → fs ≡ []
-    go [] h i = refl
-    go (f ∷ fs) h i = absurd (omega (arith, h.0, i))
+-- NO WORD says that no request has a fault
+pub no_bad : (fs : Faults) → None ≡ first_word fs → fs ≡ []
+no_bad [] e = refl
+no_bad (f ∷ fs) e = cc
 
 -- ---- from place to place
 
@@ -139,7 +127,7 @@ module _ (rs : List ℕ) (count i : ℕ) where
   from_here = requests_faults i (requests_from rs i (count - i))
 
   -- past the last request there is none
-  pub bad-none : count ≤ i → 0 ≡ unless from_here own_word 0
+  pub bad-none : count ≤ i → None ≡ first_word from_here
   unfolding requests_faults requests_from
   bad-none h = let e : count - i ≡ 0 = omega arith in rw e
 
@@ -148,17 +136,18 @@ module _ (rs : List ℕ) (count i : ℕ) where
   unfolding requests_faults requests_from
   here h = let e : count - i ≡ suc (count - suc i) = omega arith in rw e
 
-  module _ {o : Outcome} (h : i < count) (told : told_outcome o ≡ first_fault (request_faults (request_at rs i) i)) where
-    -- THE REQUEST AT A PLACE IS REFUSED, with that place
-    pub bad-here : {r : Refusal} {w : ℕ} → o ≡ Refused r → w ≡ word_at i (told_refusal r) → w ≡ unless from_here own_word 0
-    bad-here {r} {w} e is =
-        let its = each_first (λ f. f.place ≡ i) _ (request_each (λ f. f.place ≡ i) (request_at rs i) i (λ field value. refl)) e told in
-        let own : w ≡ own_word (told_refusal r) = is ∙ rw its in
-        own ∙ sym (rw (here h) (unless_refused _ own_word 0 refl (append_refused _ _ e told)))
+  -- THE REQUEST AT A PLACE IS REFUSED, with that place
+  pub bad-here : {w : ℕ} (r : Refusal) → i < count → told_outcome (Err r) ≡ first_fault (request_faults (request_at rs i) i)
+      → w ≡ word_at i (told_refusal r) → Some w ≡ first_word from_here
+  bad-here {w} r h told is =
+      let its = each_first r (λ f. f.place ≡ i) _ (request_each (λ f. f.place ≡ i) (request_at rs i) i (λ field value. refl)) told in
+      let own : w ≡ own_word (told_refusal r) = is ∙ rw its in
+      ap Some own ∙ sym (rw (here h) (unless_refused _ (λ f. Some (own_word f)) None refl (append_refused _ _ refl told)))
 
-    -- OR THE SEARCH GOES ON AT THE NEXT
-    pub bad-next : o ≡ Answered → from_here ≡ requests_faults (i + 1) (requests_from rs (i + 1) (count - (i + 1)))
-    bad-next e = here h ∙ rw (none_told _ e told, add-one i)
+  -- OR THE SEARCH GOES ON AT THE NEXT
+  pub bad-next : {u : ⊤} → i < count → told_outcome (Ok u) ≡ first_fault (request_faults (request_at rs i) i)
+      → from_here ≡ requests_faults (i + 1) (requests_from rs (i + 1) (count - (i + 1)))
+  bad-next h told = here h ∙ rw (passed _ told, add-one i)
 
 -- ---- a batch whose tests are passed
 

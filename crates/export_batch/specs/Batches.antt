@@ -65,11 +65,14 @@ unfoldable pub row_bytes : List Decision → List ℕ
 row_bytes [] = []
 row_bytes (d ∷ ds) = uncounted_bytes d ++ row_bytes ds
 
+-- Where nothing refuses a batch: 0, and each request's own decision in the order of the requests
+abbrev pub row_delivered : LentRow → Reading → List ℕ → ℕ × List ℕ
+row_delivered l b out = delivered (row_bytes (decisions_of (policy_of l.policy) b.list (requests_of l))) out
+
 -- WORD AND BUFFER OF A BATCH, however the bank is read: the word of the first fault, of 3 with the request's place, and the buffer as it was; else
 -- 0, and each request's own decision in the order of the requests
 abbrev pub row_handed : Faults → LentRow → Reading → List ℕ → ℕ × List ℕ
-row_handed faults l b out =
-    unless faults (λ f. (word_at f.place f, out)) (delivered (row_bytes (decisions_of (policy_of l.policy) b.list (requests_of l))) out)
+row_handed faults l b out = unless faults (λ f. (word_at f.place f, out)) (row_delivered l b out)
 
 -- 22, 23, 1, 2, 4
 abbrev pub batch_call : LentRow → List ℕ → ℕ × List ℕ

@@ -36,11 +36,8 @@ pub fn put_decisions(
     ensures { out.new ≡ filled (row_bytes (decisions_of policy (among_of many bank.now)
         (requests_from requests.now 0 count))) out.old }
 {
-    let mut i = 0;
-    while i < count {
+    for i in 0..count {
         let decision = decision_among(policy, bank, input_at(requests, i), many);
-        let bytes = uncounted_bytes(decision);
-        put_bytes(out, UNCOUNTED_BYTES * i, &bytes);
-        i += 1;
+        put_bytes(out, UNCOUNTED_BYTES * i, &uncounted_bytes(decision));
     }
 }

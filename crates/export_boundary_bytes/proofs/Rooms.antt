@@ -1,5 +1,5 @@
 -- Rooms written one after the other, right after what stands before them. Assumes nothing.
-use Rattle.rules.proofs.Kit.{ℕ, ◌+◌, ◌≤◌, ◌≡◌, sym, ◌∙◌, List, [], ◌∷◌, ◌++◌, map, append_assoc, append-nil, arith, zero-add, length, get_or, replicate}
+use Rattle.rules.proofs.Kit.{ℕ, ◌+◌, ◌≤◌, ◌<◌, add-one, ap, take, take-suc, take-length, map-append, ◌≡◌, sym, ◌∙◌, List, [], ◌∷◌, ◌++◌, map, append_assoc, append-nil, arith, zero-add, length, get_or, replicate}
 use Rattle.rules.proofs.Kit.{length-append, drop_of_length-le}
 use Rattle.rules.specs.{Bytes.filled, Numbers.Entry, Numbers.told_entry, Numbers.Boundary, declared.boundary.Requirement.Requirement}
 use Rattle.endian_writing.specs.Put.{patched}
@@ -33,26 +33,40 @@ written_head b e =
     let size = length_head b in
     record { room = omega arith; ends = omega arith; is = e ∙ sym (patched_start _ _) }
 
+-- rooms, and one more
+rooms_more : (es : List Entry) (e : Entry) → rooms_bytes (es ++ (e ∷ [])) ≡ rooms_bytes es ++ lever_bytes e
+unfolding rooms_bytes
+rooms_more [] e = append-nil (lever_bytes e)
+rooms_more (d ∷ es) e = ap (λ b. lever_bytes d ++ b) (rooms_more es e) ∙ sym (append_assoc (lever_bytes d) (rooms_bytes es) (lever_bytes e))
+
+-- the rooms of the first i levers
+abbrev pub rooms : List Requirement → ℕ → List ℕ
+rooms rs i = rooms_bytes (map told_entry (take i rs))
+
+rooms-next : (rs : List Requirement) (i : ℕ) (r : Requirement) → i < length rs → rooms rs (i + 1) ≡ rooms rs i ++ lever_bytes (told_entry (get_or rs i r))
+rooms-next rs i r h = rw (add-one, take-suc rs i r h, map-append) (rooms_more (map told_entry (take i rs)) (told_entry (get_or rs i r)))
+
+-- NO ROOM YET
+pub rooms_none : {z d head : List ℕ} {at : ℕ} (rs : List Requirement) → Written z 0 head d at → Written z 0 (head ++ rooms rs 0) d at
+unfolding rooms_bytes
+rooms_none rs w = rw append-nil w
+
 -- ONE ROOM MORE
-pub room_more : {z d out bytes : List ℕ} {at : ℕ} (e : Entry) → Written z 0 bytes d at → at + 26 ≤ length z → out ≡ patched d at (lever_bytes e)
-    → Written z 0 (bytes ++ lever_bytes e) out (at + 26)
-room_more {z} {d} {out} {bytes} {at} e w room put =
+pub room_more : {z d out lever : List ℕ} {at : ℕ} (head : List ℕ) (rs : List Requirement) (i : ℕ) (r : Requirement) → lever ≡ lever_bytes (told_entry (get_or rs i r))
+    → i < length rs → Written z 0 (head ++ rooms rs i) d at → at + 26 ≤ length z → out ≡ patched d at lever → (n : ℕ) → n ≡ at + 26
+    → Written z 0 (head ++ rooms rs (i + 1)) out n
+room_more {z} {d} {out} {lever} {at} head rs i r is h w room put n k =
+    let e = told_entry (get_or rs i r) in
     let size = length_lever e in
     let long = written_length w in
-    let one : Written d at (lever_bytes e) out (at + 26) = record { room = omega arith; ends = omega arith; is = put } in
-    written_then w one
+    let one : Written d at (lever_bytes e) out (at + 26) = record { room = omega arith; ends = omega arith; is = rw (← is) put } in
+    rw (rooms-next rs i r h, ← append_assoc, k) (written_then w one)
 
--- FOUR ROOMS fill the array
-pub four_rooms : {z out : List ℕ} (head : List ℕ) (rs : List Requirement) (r : Requirement) → length rs ≡ 4
-    → Written z 0 ((((head ++ lever_bytes (told_entry (get_or rs 0 r))) ++ lever_bytes (told_entry (get_or rs 1 r))) ++ lever_bytes (told_entry (get_or rs 2 r)))
-    ++ lever_bytes (told_entry (get_or rs 3 r))) out (length z)
+-- ALL ROOMS fill the array
+pub rooms_filled : {z out : List ℕ} {n : ℕ} (head : List ℕ) (rs : List Requirement) (i : ℕ) → Written z 0 (head ++ rooms rs i) out n → i ≡ length rs → n ≡ length z
     → out ≡ head ++ rooms_bytes (map told_entry rs)
-unfolding rooms_bytes filled
-four_rooms {z} {out} head (a ∷ b ∷ d ∷ e ∷ []) r h w =
-    let all = (((head ++ lever_bytes (told_entry a)) ++ lever_bytes (told_entry b)) ++ lever_bytes (told_entry d)) ++ lever_bytes (told_entry e) in
-    written_filled w ∙ rw (drop_of_length-le z {i = length all} (omega (arith, w.ends)), append-nil) (simp (append_assoc, append-nil))
-four_rooms head [] r h w = absurd (omega arith)
-four_rooms head (a ∷ []) r h w = absurd (omega arith)
-four_rooms head (a ∷ b ∷ []) r h w = absurd (omega arith)
-four_rooms head (a ∷ b ∷ d ∷ []) r h w = absurd (omega arith)
-four_rooms head (a ∷ b ∷ d ∷ e ∷ f ∷ rs) r h w = absurd (omega arith)
+unfolding filled
+rooms_filled {z} {out} head rs i w e k =
+    let all = head ++ rooms_bytes (map told_entry rs) in
+    let v = rw (e, k, take-length) at w in
+    written_filled v ∙ rw (drop_of_length-le z {i = length all} (omega (arith, v.ends)), append-nil)

@@ -3,7 +3,7 @@
 #![tactic(auto)]
 
 ghost use Rattle.std.specs.Prelude.{◌≡◌, ◌≤◌, [], length};
-ghost use Rattle.rules.specs.Numbers.{told_boundaries};
+ghost use Rattle.rules.specs.Levers.{told_bounds};
 ghost use Rattle.export_boundary_bytes.specs.Layout.{boundary_size, boundary_bytes};
 ghost use Rattle.export_checks.specs.Checks.{lent, handed};
 ghost use Rattle.export_bounds.specs.Bounds.{bounds_in, win_call, margin_call};
@@ -13,20 +13,16 @@ use counterfactual_margin::decision_margin;
 use counterfactual_win::what_would_win;
 use export_boundary_bytes::{BOUNDARY_BYTES, boundary_bytes};
 use export_checks::{call_outcome, hand_bytes, refusal_word};
-use rules::{Boundaries, Outcome};
+use rules::{Boundaries, Refusal};
 
 // What a boundary call answers, where it has room.
-pub fn bounds_handed(answer: Boundaries, out: &mut [u8]) -> u64
+pub fn bounds_handed(answer: Result<Boundaries, Refusal>, out: &mut [u8]) -> u64
     requires { boundary_size ≤ length out.old }
-    ensures { (result, out.new) ≡ handed boundary_bytes [] (bounds_in (told_boundaries answer)) out.old }
+    ensures { (result, out.new) ≡ handed boundary_bytes [] (bounds_in (told_bounds answer)) out.old }
 {
-    let outcome = answer.outcome;
-    match outcome {
-        Outcome::Refused(refusal) => refusal_word(refusal, 0),
-        Outcome::Answered => {
-            let bytes = boundary_bytes(answer);
-            hand_bytes(out, &bytes)
-        }
+    match answer {
+        Ok(boundaries) => hand_bytes(out, &boundary_bytes(boundaries)),
+        Err(refusal) => refusal_word(refusal, 0),
     }
 }
 
@@ -34,8 +30,7 @@ pub fn bounds_handed(answer: Boundaries, out: &mut [u8]) -> u64
 pub fn win_delivered(policy: &[u8], request: &[u8], bank: &[u8], id: u32, out: &mut [u8]) -> u64
     ensures { (result, out.new) ≡ win_call (lent policy.now request.now bank.now) id out.old }
 {
-    let outcome = call_outcome(policy, request, bank, BOUNDARY_BYTES, out.len());
-    if let Outcome::Refused(refusal) = outcome {
+    if let Err(refusal) = call_outcome(policy, request, bank, BOUNDARY_BYTES, out.len()) {
         return refusal_word(refusal, 0);
     }
     bounds_handed(
@@ -48,8 +43,7 @@ pub fn win_delivered(policy: &[u8], request: &[u8], bank: &[u8], id: u32, out: &
 pub fn margin_delivered(policy: &[u8], request: &[u8], bank: &[u8], out: &mut [u8]) -> u64
     ensures { (result, out.new) ≡ margin_call (lent policy.now request.now bank.now) out.old }
 {
-    let outcome = call_outcome(policy, request, bank, BOUNDARY_BYTES, out.len());
-    if let Outcome::Refused(refusal) = outcome {
+    if let Err(refusal) = call_outcome(policy, request, bank, BOUNDARY_BYTES, out.len()) {
         return refusal_word(refusal, 0);
     }
     bounds_handed(

@@ -11,15 +11,13 @@ use bank::unchecked::policy_of;
 use catalogue::trust;
 use catalogue_validation::validate;
 use export_checks::{outcome_word, refusal_word};
-use rules::Outcome;
 use unpacking_policy::policy_lent_outcome;
 
 // Whether a policy with its bank may serve. Refused: 22, 23, 1, 2, 10, 11, then record by record 12, 13, 14, then 15.
 pub fn validate_delivered(policy: &[u8], bank: &[u8]) -> u64
     ensures { result ≡ word_of (first_fault (validate_faults policy.now bank.now)) }
 {
-    let lent = policy_lent_outcome(policy);
-    if let Outcome::Refused(refusal) = lent {
+    if let Err(refusal) = policy_lent_outcome(policy) {
         return refusal_word(refusal, 0);
     }
     outcome_word(validate(policy_of(policy), bank))
@@ -29,11 +27,8 @@ pub fn validate_delivered(policy: &[u8], bank: &[u8]) -> u64
 pub fn trust_delivered(policy: &[u8], bank: &mut [u8]) -> u64
     ensures { (result, bank.new) ≡ trust_call policy.now bank.old }
 {
-    let lent = policy_lent_outcome(policy);
-    if let Outcome::Refused(refusal) = lent {
+    if let Err(refusal) = policy_lent_outcome(policy) {
         return refusal_word(refusal, 0);
     }
-    let trusted = trust(policy_of(policy), bank);
-    let outcome = trusted.outcome;
-    outcome_word(outcome)
+    outcome_word(trust(policy_of(policy), bank))
 }

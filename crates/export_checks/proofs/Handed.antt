@@ -1,8 +1,8 @@
 -- Word and buffer of a call, from what its tests and the calls below it tell. Assumes nothing.
 use Rattle.rules.proofs.Kit.{ℕ, ◌≡◌, refl, sym, ap, ◌∙◌, List, [], ◌∷◌, ◌++◌, arith}
 use Rattle.rules.specs.{Refused.Fault, Refused.Faults, Refused.first_fault, Refused.told_refusal, Refused.told_outcome, Refused.Answer, Refused.refused}
-use Rattle.rules.specs.{Refused.answered, Refused.unless, declared.refusal.Refusal.Refusal, declared.refusal.Outcome.Outcome}
-use Rattle.rules.specs.{declared.refusal.Outcome.TheVariants.Refused}
+use Rattle.rules.specs.{Refused.answered, Refused.unless, declared.refusal.Refusal.Refusal}
+use Rattle.std.specs.Prelude.{Err}
 use Rattle.endian_writing.specs.Put.{patched}
 use Rattle.splice.proofs.Pieces.{patched_start}
 use Rattle.export_checks.specs.Checks.{word_at, delivered, handed}
@@ -23,12 +23,11 @@ first_handed bytes fs a out e h = rw (e, h)
 
 module _ {A : Type 0} (bytes : A → List ℕ) (fs : Faults) (a : Answer A) (out : List ℕ) where
   -- TESTS THAT REFUSED hand over their refusal, and those that passed leave it to the answer
-  pub tests-refused : {o : Outcome} {r : Refusal} {w : ℕ} → o ≡ Refused r → told_outcome o ≡ first_fault fs → w ≡ word_at 0 (told_refusal r)
-      → (w, out) ≡ handed bytes fs a out
+  pub tests-refused : {w : ℕ} (r : Refusal) → told_outcome (Err r) ≡ first_fault fs → w ≡ word_at 0 (told_refusal r) → (w, out) ≡ handed bytes fs a out
   unfolding first_fault told_outcome
-  tests-refused {o} {r} {w} e h k = go fs (sym (ap told_outcome e) ∙ h)
+  tests-refused {w} r h k = go fs h
     where
-      go : (gs : Faults) → told_outcome (Refused r) ≡ first_fault gs → (w, out) ≡ handed bytes gs a out
+      go : (gs : Faults) → told_outcome (Err r) ≡ first_fault gs → (w, out) ≡ handed bytes gs a out
       go [] i = absurd (let z : ◌≡◌ {A = ℕ} 0 1 = cc in omega arith)
       go (g ∷ gs) i = first_handed bytes (g ∷ gs) a out refl (k ∙ ap (word_at 0) (let s : told_refusal r ≡ g = cc in s))
 

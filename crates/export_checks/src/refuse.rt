@@ -6,22 +6,19 @@ ghost use Rattle.export_checks.specs.Checks.{lent, lent_faults, call_faults, che
 use crate::word::outcome_word;
 use bank::unchecked::input_of;
 use call_checks::refuse::{bank_outcome, input_outcome};
+use rules::Refusal;
 use rules::limits::REQUEST_BYTES;
-use rules::{Outcome, Refusal};
 use unpacking_policy::policy_lent_outcome;
 
 // 1 or 2 for the bank, then 4 where the answer needs more room.
-pub fn lent_outcome(bank: &[u8], needed: usize, room: usize) -> Outcome
+pub fn lent_outcome(bank: &[u8], needed: usize, room: usize) -> Result<(), Refusal>
     ensures { told_outcome result ≡ first_fault (lent_faults bank.now needed room) }
 {
-    let outcome = bank_outcome(bank.len());
-    if let Outcome::Refused(refusal) = outcome {
-        return Outcome::Refused(refusal);
-    }
+    bank_outcome(bank.len())?;
     if room < needed {
-        return Outcome::Refused(Refusal::NoRoom);
+        return Err(Refusal::NoRoom);
     }
-    Outcome::Answered
+    Ok(())
 }
 
 // 22 for the request or the policy, 23, then 1, 2 and 4. Where both lengths are wrong, each is the same 22.
@@ -31,16 +28,13 @@ pub fn call_outcome(
     bank: &[u8],
     needed: usize,
     room: usize,
-) -> Outcome
+) -> Result<(), Refusal>
     ensures { told_outcome result ≡ first_fault (call_faults (lent policy.now request.now bank.now) needed room) }
 {
     if request.len() != REQUEST_BYTES {
-        return Outcome::Refused(Refusal::WrongLength);
+        return Err(Refusal::WrongLength);
     }
-    let outcome = policy_lent_outcome(policy);
-    if let Outcome::Refused(refusal) = outcome {
-        return Outcome::Refused(refusal);
-    }
+    policy_lent_outcome(policy)?;
     lent_outcome(bank, needed, room)
 }
 
@@ -51,23 +45,21 @@ pub fn checked_call_outcome(
     bank: &[u8],
     needed: usize,
     room: usize,
-) -> Outcome
+) -> Result<(), Refusal>
     ensures { told_outcome result ≡ first_fault (checked_faults (lent policy.now request.now bank.now) needed room) }
 {
-    let outcome = call_outcome(policy, request, bank, needed, room);
-    if let Outcome::Refused(refusal) = outcome {
-        return Outcome::Refused(refusal);
-    }
+    call_outcome(policy, request, bank, needed, room)?;
     let input = input_of(request);
     input_outcome(input, 0)
 }
 
 // Of the request check alone: 22, then 3.
-pub fn request_outcome(request: &[u8]) -> Outcome
+#[tactic(auto, unfolding(rules::specs::Refused::size_faults, rules::specs::Refused::first_fault, rules::specs::Refused::told_outcome))]
+pub fn request_outcome(request: &[u8]) -> Result<(), Refusal>
     ensures { told_outcome result ≡ first_fault (check_faults request.now) }
 {
     if request.len() != REQUEST_BYTES {
-        return Outcome::Refused(Refusal::WrongLength);
+        return Err(Refusal::WrongLength);
     }
     input_outcome(input_of(request), 0)
 }

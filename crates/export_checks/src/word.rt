@@ -3,16 +3,20 @@ ghost use Rattle.std.specs.Prelude.{◌≡◌, ◌+◌, ◌*◌, ◌^◌};
 ghost use Rattle.rules.specs.Refused.{told_refusal, told_outcome};
 ghost use Rattle.export_checks.specs.Checks.{word_at, word_of};
 
-use rules::{Outcome, Refusal};
+use rules::Refusal;
 
 // The four parts of a word, each in its bits.
 fn word(number: u8, field: u8, value: u16, at: u32) -> u64
     ensures { result ≡ number + 2 ^ 8 * field + 2 ^ 16 * value + 2 ^ 32 * at }
 {
-    (number as u64) + 256 * (field as u64) + 65_536 * (value as u64) + 4_294_967_296 * (at as u64)
+    u64::from(number)
+        + 256 * u64::from(field)
+        + 65_536 * u64::from(value)
+        + 4_294_967_296 * u64::from(at)
 }
 
 // A refusal's number with its values. The place goes into the word of a request's refusal alone: no other tells one.
+#[tactic(auto, unfolding(rules::specs::Choice::equal))]
 pub fn refusal_word(refusal: Refusal, place: u32) -> u64
     ensures { result ≡ word_at place (told_refusal refusal) }
 {
@@ -31,18 +35,19 @@ pub fn refusal_word(refusal: Refusal, place: u32) -> u64
             value,
         } => word(number, field, value, model_id),
         Refusal::InvalidEnabledFlag { model_id, value } => {
-            word(number, 0, value as u16, model_id)
+            word(number, 0, u16::from(value), model_id)
         }
         _ => word(number, 0, 0, 0),
     }
 }
 
 // The word of a call that isn't of a batch, so that its place is 0: the refusal's, or 0 where it answered.
-pub fn outcome_word(outcome: Outcome) -> u64
+#[tactic(auto, unfolding(rules::specs::Refused::told_outcome))]
+pub fn outcome_word(outcome: Result<(), Refusal>) -> u64
     ensures { result ≡ word_of (told_outcome outcome) }
 {
     match outcome {
-        Outcome::Refused(refusal) => refusal_word(refusal, 0),
-        Outcome::Answered => 0,
+        Ok(()) => 0,
+        Err(refusal) => refusal_word(refusal, 0),
     }
 }

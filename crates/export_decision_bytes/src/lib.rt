@@ -5,7 +5,6 @@ ghost use Rattle.std.specs.Prelude.{◌≡◌};
 ghost use Rattle.rules.specs.Numbers.{told_decision};
 ghost use Rattle.export_decision_bytes.specs.Layout.{uncounted_bytes, decision_bytes};
 
-use endian_signs::signed_bits;
 use endian_writing::{put16, put32, put64};
 use rules::{DecisionTrace, KernelDecision};
 use splice::put_bytes;
@@ -23,25 +22,23 @@ pub type DecisionBytes = [u8; DECISION_BYTES];
 pub fn uncounted_bytes(decision: KernelDecision) -> UncountedBytes
     ensures { result ≡ uncounted_bytes (told_decision decision) }
 {
-    let action = decision.action;
-    let reason = decision.reason;
     let mut a = [0u8; UNCOUNTED_BYTES];
     put64(&mut a, 0, decision.request_sequence);
-    a[8] = action.number();
-    put16(&mut a, 9, reason.number());
+    a[8] = decision.action.number();
+    put16(&mut a, 9, decision.reason.number());
     put32(&mut a, 11, decision.selected_model_id);
     put16(&mut a, 15, decision.selected_model_index);
     put64(&mut a, 17, decision.estimated_cost_microunits);
     put64(
         &mut a,
         25,
-        signed_bits(decision.expected_utility_microunits),
+        decision.expected_utility_microunits.cast_unsigned(),
     );
     put32(&mut a, 33, decision.counterfactual_model_id);
     put64(
         &mut a,
         37,
-        signed_bits(decision.counterfactual_utility_microunits),
+        decision.counterfactual_utility_microunits.cast_unsigned(),
     );
     put16(&mut a, 45, decision.evaluated_models);
     put16(&mut a, 47, decision.eligible_models);
@@ -55,9 +52,8 @@ pub fn decision_bytes(decision: KernelDecision, trace: DecisionTrace) -> Decisio
     ensures { result ≡ decision_bytes (record { decision = told_decision decision; trace = trace }) }
 {
     let counts = trace.rejections;
-    let alone = uncounted_bytes(decision);
     let mut a = [0u8; DECISION_BYTES];
-    put_bytes(&mut a, 0, &alone);
+    put_bytes(&mut a, 0, &uncounted_bytes(decision));
     put16(&mut a, 65, counts.disabled);
     put16(&mut a, 67, counts.quality);
     put16(&mut a, 69, counts.risk_ceiling);

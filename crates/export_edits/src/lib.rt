@@ -17,7 +17,7 @@ use export_live_checks::live_policy_outcome;
 use live_compact::compact;
 use live_edits::{add, remove, replace};
 use rules::limits::RECORD_BYTES;
-use rules::{Edited, Outcome, Refusal};
+use rules::{PolicySnapshot, Refusal};
 
 // The bytes of a slot's number, or of how many records are live.
 const SLOT_BYTES: usize = 2;
@@ -26,32 +26,36 @@ const SLOT_BYTES: usize = 2;
 const EPOCH_START: usize = 8;
 
 // 22 or 23 for the policy, then 1, 2, 34 and 4.
-fn stock_outcome(policy: &[u8], bank: &[u8], room: usize) -> Outcome
+fn stock_outcome(policy: &[u8], bank: &[u8], room: usize) -> Result<(), Refusal>
     ensures { told_outcome result ≡ first_fault (stock_faults (stock policy.now bank.now) room) }
 {
-    let slots = live_policy_outcome(policy, bank, SLOT_BYTES, room);
-    slots.outcome
+    live_policy_outcome(policy, bank, SLOT_BYTES, room)?;
+    Ok(())
 }
 
 // 22 for a record that is offered, then the same.
-fn offered_outcome(policy: &[u8], bank: &[u8], bytes: &[u8], room: usize) -> Outcome
+fn offered_outcome(policy: &[u8], bank: &[u8], bytes: &[u8], room: usize) -> Result<(), Refusal>
     ensures { told_outcome result ≡ first_fault (offered bytes.now (stock_faults (stock policy.now bank.now) room)) }
 {
     if bytes.len() != RECORD_BYTES {
-        return Outcome::Refused(Refusal::WrongLength);
+        return Err(Refusal::WrongLength);
     }
     stock_outcome(policy, bank, room)
 }
 
 // What an edit answers, where it has room: the raised epoch goes into the policy, and the slot, or how many records are live, to `out`.
-fn edited_handed(edited: Edited, policy: &mut [u8], out: &mut [u8]) -> u64
+fn edited_handed(
+    edited: Result<(PolicySnapshot, u16), Refusal>,
+    policy: &mut [u8],
+    out: &mut [u8],
+) -> u64
     requires { (policy_bytes ≤ length policy.old) × (slot_size ≤ length out.old) }
     ensures answer { (result, out.new) ≡ handed slot_bytes [] (told_edited edited) out.old }
     ensures epoch { policy.new ≡ policy_after (told_edited edited) policy.old }
 {
     match edited {
-        Edited::Refused(refusal) => refusal_word(refusal, 0),
-        Edited::Done(raised, number) => {
+        Err(refusal) => refusal_word(refusal, 0),
+        Ok((raised, number)) => {
             put64(policy, EPOCH_START, raised.catalog_epoch);
             put16(out, 0, number);
             0
@@ -64,8 +68,7 @@ pub fn add_delivered(policy: &mut [u8], bank: &mut [u8], bytes: &[u8], out: &mut
     ensures { ((result, out.new), stock policy.new bank.new) ≡ add_call (stock policy.old bank.old)
         bytes.now out.old }
 {
-    let outcome = offered_outcome(policy, bank, bytes, out.len());
-    if let Outcome::Refused(refusal) = outcome {
+    if let Err(refusal) = offered_outcome(policy, bank, bytes, out.len()) {
         return refusal_word(refusal, 0);
     }
     let edited = add(policy_of(policy), bank, bytes);
@@ -77,8 +80,7 @@ pub fn replace_delivered(policy: &mut [u8], bank: &mut [u8], bytes: &[u8], out: 
     ensures { ((result, out.new), stock policy.new bank.new) ≡ replace_call (stock policy.old bank.old)
         bytes.now out.old }
 {
-    let outcome = offered_outcome(policy, bank, bytes, out.len());
-    if let Outcome::Refused(refusal) = outcome {
+    if let Err(refusal) = offered_outcome(policy, bank, bytes, out.len()) {
         return refusal_word(refusal, 0);
     }
     let edited = replace(policy_of(policy), bank, bytes);
@@ -90,8 +92,7 @@ pub fn remove_delivered(policy: &mut [u8], bank: &mut [u8], id: u32, out: &mut [
     ensures { ((result, out.new), stock policy.new bank.new) ≡ remove_call (stock policy.old bank.old) id
         out.old }
 {
-    let outcome = stock_outcome(policy, bank, out.len());
-    if let Outcome::Refused(refusal) = outcome {
+    if let Err(refusal) = stock_outcome(policy, bank, out.len()) {
         return refusal_word(refusal, 0);
     }
     let edited = remove(policy_of(policy), bank, id);
@@ -103,8 +104,7 @@ pub fn compact_delivered(policy: &mut [u8], bank: &mut [u8], out: &mut [u8]) -> 
     ensures { ((result, out.new), stock policy.new bank.new) ≡ compact_call (stock policy.old bank.old)
         out.old }
 {
-    let outcome = stock_outcome(policy, bank, out.len());
-    if let Outcome::Refused(refusal) = outcome {
+    if let Err(refusal) = stock_outcome(policy, bank, out.len()) {
         return refusal_word(refusal, 0);
     }
     let edited = compact(policy_of(policy), bank);

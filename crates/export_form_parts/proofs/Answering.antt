@@ -2,9 +2,9 @@
 use Rattle.rules.proofs.Kit.{ℕ, ◌+◌, ◌<◌, ◌≤◌, ◌≡◌, ◌∙◌, Bool, true, false, List, [], ◌∷◌, ◌++◌, arith, lt-ltb, ltb, length}
 use Rattle.rules.specs.{Limits.longest_policy_bytes, Limits.request_bytes, Bytes.bytes_of, Refused.Faults, Refused.fault, Refused.refuse_if}
 use Rattle.rules.specs.{Refused.first_fault, Refused.told_outcome, Refused.room_faults, Refused.list_unless, Refused.answered}
-use Rattle.rules.specs.{Stored.form_faults, Stored.stored_tags, Stored.stored_bank, Stored.read_faults, declared.refusal.Outcome.Outcome}
-use Rattle.rules.specs.{declared.refusal.Outcome.TheVariants.Answered}
-use Rattle.rules.proofs.Faults.{none_told}
+use Rattle.rules.specs.{Stored.form_faults, Stored.stored_tags, Stored.stored_bank, Stored.read_faults}
+use Rattle.std.specs.Prelude.{Ok, ⊤}
+use Rattle.rules.proofs.Faults.{passed}
 use Rattle.endian_writing.specs.Put.{patched}
 use Rattle.endian_writing.proofs.Stored.{patch_join}
 use Rattle.export_checks.specs.Checks.{word_at, word_of, word_size, delivered, handed}
@@ -16,10 +16,10 @@ pub request_short : (form : List ℕ) (room : ℕ) → form_faults (3 ∷ []) fo
 request_short form room e h = rw (e, room_first request_bytes room h)
 
 -- The form has no fault of its own: 4
-pub four_left : {o : Outcome} {w : ℕ} (fs : Faults) → o ≡ Answered → told_outcome o ≡ first_fault fs → w ≡ word_at 0 (fault 4)
+pub four_left : {u : ⊤} {w : ℕ} (fs : Faults) → told_outcome (Ok u) ≡ first_fault fs → w ≡ word_at 0 (fault 4)
     → w ≡ word_of (first_fault (fs ++ (fault 4 ∷ [])))
 unfolding first_fault
-four_left fs e h k = rw (none_told fs e h) k
+four_left fs h k = rw (passed fs h) k
 
 -- The policy that was read has no room: the form's own fault, else 4, and neither buffer is written
 pub roomless_so : {w : ℕ} (form bank out : List ℕ) → length out < stored_size → w ≡ word_of (first_fault (roomless_faults form))

@@ -10,8 +10,8 @@ ghost use Rattle.export_form_parts.specs.Parts.{read_stored_call, roomless_fault
 use endian_writing::put64;
 use export_checks::{hand_bytes, refusal_word};
 use packing::{input_bytes, policy_bytes};
+use rules::Refusal;
 use rules::limits::{LONGEST_POLICY_BYTES, REQUEST_BYTES};
-use rules::{Outcome, Refusal, RequestRead, StoredRead};
 use splice::put_bytes;
 use stored::{read_request, read_stored};
 use stored_fields::{ALLOWANCE_TAG, BANK_TAG, POLICY_TAG, ROUNDING_TAG};
@@ -26,8 +26,8 @@ fn roomless(form: &[u8]) -> u64
 {
     let tags = [POLICY_TAG, BANK_TAG, ROUNDING_TAG, ALLOWANCE_TAG];
     match lay_out(form, &tags) {
-        Outcome::Refused(refusal) => refusal_word(refusal, 0),
-        Outcome::Answered => refusal_word(Refusal::NoRoom, 0),
+        Err(refusal) => refusal_word(refusal, 0),
+        Ok(()) => refusal_word(Refusal::NoRoom, 0),
     }
 }
 
@@ -40,10 +40,9 @@ pub fn stored_delivered(form: &[u8], bank: &mut [u8], out: &mut [u8]) -> u64
         return roomless(form);
     }
     match read_stored(form, bank) {
-        StoredRead::Refused(refusal) => refusal_word(refusal, 0),
-        StoredRead::Read(policy, size) => {
-            let head = policy_bytes(policy);
-            put_bytes(out, 0, &head);
+        Err(refusal) => refusal_word(refusal, 0),
+        Ok((policy, size)) => {
+            put_bytes(out, 0, &policy_bytes(policy));
             put64(out, LONGEST_POLICY_BYTES, size as u64);
             0
         }
@@ -55,13 +54,8 @@ pub fn request_delivered(form: &[u8], out: &mut [u8]) -> u64
     ensures { (result, out.new) ≡ read_request_call form.now out.old }
 {
     match read_request(form) {
-        RequestRead::Refused(refusal) => refusal_word(refusal, 0),
-        RequestRead::Read(input) => {
-            if out.len() < REQUEST_BYTES {
-                return refusal_word(Refusal::NoRoom, 0);
-            }
-            let bytes = input_bytes(input);
-            hand_bytes(out, &bytes)
-        }
+        Err(refusal) => refusal_word(refusal, 0),
+        Ok(_) if out.len() < REQUEST_BYTES => refusal_word(Refusal::NoRoom, 0),
+        Ok(input) => hand_bytes(out, &input_bytes(input)),
     }
 }

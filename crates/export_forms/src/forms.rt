@@ -5,18 +5,18 @@ ghost use Rattle.export_forms.specs.Forms.{write_stored_call, write_request_call
 
 use bank::unchecked::{input_of, policy_of};
 use export_checks::refusal_word;
+use rules::Refusal;
 use rules::limits::REQUEST_BYTES;
-use rules::{Outcome, Refusal, Written};
 use stored::{write_request, write_stored};
 use unpacking_policy::policy_lent_outcome;
 
 // The word of a form that was written: the refusal's, or 0.
-fn written_word(written: Written) -> u64
+fn written_word(written: Result<usize, Refusal>) -> u64
     ensures { result ≡ written_word (told_written written) }
 {
     match written {
-        Written::Refused(refusal) => refusal_word(refusal, 0),
-        Written::Bytes(_) => 0,
+        Ok(_) => 0,
+        Err(refusal) => refusal_word(refusal, 0),
     }
 }
 
@@ -24,8 +24,7 @@ fn written_word(written: Written) -> u64
 pub fn stored_form_delivered(policy: &[u8], bank: &[u8], out: &mut [u8]) -> u64
     ensures { (result, out.new) ≡ write_stored_call policy.now bank.now out.old }
 {
-    let lent = policy_lent_outcome(policy);
-    if let Outcome::Refused(refusal) = lent {
+    if let Err(refusal) = policy_lent_outcome(policy) {
         return refusal_word(refusal, 0);
     }
     written_word(write_stored(policy_of(policy), bank, out))

@@ -3,8 +3,8 @@ ghost use Rattle.std.specs.Prelude.{◌≡◌};
 ghost use Rattle.export_forms.specs.Forms.{record_at_call};
 
 use export_checks::{hand_u64, lent_outcome, refusal_word};
+use rules::Refusal;
 use rules::limits::RECORD_BYTES;
-use rules::{Outcome, Refusal};
 
 // An offset's bytes.
 const OFFSET_BYTES: usize = 8;
@@ -13,14 +13,12 @@ const OFFSET_BYTES: usize = 8;
 pub fn offset_delivered(bank: &[u8], place: u64, out: &mut [u8]) -> u64
     ensures { (result, out.new) ≡ record_at_call bank.now place out.old }
 {
-    let outcome = lent_outcome(bank, OFFSET_BYTES, out.len());
-    if let Outcome::Refused(refusal) = outcome {
+    if let Err(refusal) = lent_outcome(bank, OFFSET_BYTES, out.len()) {
         return refusal_word(refusal, 0);
     }
     let records = (bank.len() / RECORD_BYTES) as u64;
     if records <= place {
         return refusal_word(Refusal::BeyondBank, 0);
     }
-    let offset = RECORD_BYTES as u64 * place;
-    hand_u64(out, offset)
+    hand_u64(out, RECORD_BYTES as u64 * place)
 }

@@ -14,7 +14,6 @@ use export_bounds::bounds_handed;
 use export_checks::refusal_word;
 use export_live_checks::live_call_outcome;
 use live_slots::slots::first_live;
-use rules::Outcome;
 
 // The levers that would make a live model selected. Refused: 22, 23, 1, 2, 34, 4, 5.
 pub fn live_win_delivered(
@@ -26,36 +25,25 @@ pub fn live_win_delivered(
 ) -> u64
     ensures { (result, out.new) ≡ live_win_call (lent policy.now request.now bank.now) id out.old }
 {
-    let slots = live_call_outcome(policy, request, bank, BOUNDARY_BYTES, out.len());
-    let outcome = slots.outcome;
-    if let Outcome::Refused(refusal) = outcome {
-        return refusal_word(refusal, 0);
+    match live_call_outcome(policy, request, bank, BOUNDARY_BYTES, out.len()) {
+        Ok(live) => {
+            let found = first_live(bank, id);
+            let answer = win_among(policy_of(policy), bank, input_of(request), id, found, live);
+            bounds_handed(answer, out)
+        }
+        Err(refusal) => refusal_word(refusal, 0),
     }
-    let found = first_live(bank, id);
-    bounds_handed(
-        win_among(
-            policy_of(policy),
-            bank,
-            input_of(request),
-            id,
-            found,
-            slots.live,
-        ),
-        out,
-    )
 }
 
 // How far the levers of the selected model can move. Refused: 22, 23, 1, 2, 34, 4, 6.
 pub fn live_margin_delivered(policy: &[u8], request: &[u8], bank: &[u8], out: &mut [u8]) -> u64
     ensures { (result, out.new) ≡ live_margin_call (lent policy.now request.now bank.now) out.old }
 {
-    let slots = live_call_outcome(policy, request, bank, BOUNDARY_BYTES, out.len());
-    let outcome = slots.outcome;
-    if let Outcome::Refused(refusal) = outcome {
-        return refusal_word(refusal, 0);
+    match live_call_outcome(policy, request, bank, BOUNDARY_BYTES, out.len()) {
+        Ok(live) => {
+            let answer = margin_among(policy_of(policy), bank, input_of(request), live);
+            bounds_handed(answer, out)
+        }
+        Err(refusal) => refusal_word(refusal, 0),
     }
-    bounds_handed(
-        margin_among(policy_of(policy), bank, input_of(request), slots.live),
-        out,
-    )
 }

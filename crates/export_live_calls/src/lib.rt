@@ -5,8 +5,7 @@
 ghost use Rattle.std.specs.Prelude.{◌≡◌, [], ◌≤◌, length};
 ghost use Rattle.rules.specs.Limits.{request_bytes};
 ghost use Rattle.rules.specs.Records.{input_of, policy_of};
-ghost use Rattle.rules.specs.Refused.{answered};
-ghost use Rattle.rules.specs.Numbers.{told_traced};
+ghost use Rattle.rules.specs.Numbers.{told_trace};
 ghost use Rattle.rules.specs.Stored.{policy_size_faults};
 ghost use Rattle.rules.specs.Decide.{traced_of};
 ghost use Rattle.live_slots.specs.Among.{among_of, Among};
@@ -21,29 +20,30 @@ use export_decision_bytes::{DECISION_BYTES, UNCOUNTED_BYTES};
 use export_live_checks::{live_call_outcome, live_checked_call_outcome};
 use kernel_among::among::decide_among;
 use kernel_trace::trace::trace_of;
-use rules::{Outcome, Traced};
+use rules::{DecisionTrace, KernelDecision};
 
 // The decision over so many records with its counts. Policy and request come as their bytes, as in `kernel_trace::lent`.
-fn traced_live(policy: &[u8], request: &[u8], bank: &[u8], live: u16) -> Traced
+fn traced_live(
+    policy: &[u8],
+    request: &[u8],
+    bank: &[u8],
+    live: u16,
+) -> (KernelDecision, DecisionTrace)
     requires { (policy_size_faults policy.now ≡ []) × (request_bytes ≤ length request.now) × Among live bank.now }
-    ensures { told_traced result ≡ answered (traced_of (policy_of policy.now) (input_of request.now) (among_of live bank.now)) }
+    ensures { told_trace result ≡ traced_of (policy_of policy.now) (input_of request.now) (among_of live bank.now) }
 {
     let decided = decide_among(policy_of(policy), bank, input_of(request), live);
-    let decision = decided.decision;
-    let counts = decided.counts;
-    Traced::Decided(decision, trace_of(decision, counts))
+    (decided.decision, trace_of(decided.decision, decided.counts))
 }
 
 // The decision over the live records with its counts. Refused: 22, 23, 1, 2, 34, 4.
 pub fn live_prescribe_delivered(policy: &[u8], request: &[u8], bank: &[u8], out: &mut [u8]) -> u64
     ensures { (result, out.new) ≡ live_prescribe_call (lent policy.now request.now bank.now) out.old }
 {
-    let slots = live_call_outcome(policy, request, bank, DECISION_BYTES, out.len());
-    let outcome = slots.outcome;
-    if let Outcome::Refused(refusal) = outcome {
-        return refusal_word(refusal, 0);
+    match live_call_outcome(policy, request, bank, DECISION_BYTES, out.len()) {
+        Ok(live) => traced_handed(Ok(traced_live(policy, request, bank, live)), out),
+        Err(refusal) => refusal_word(refusal, 0),
     }
-    traced_handed(traced_live(policy, request, bank, slots.live), out)
 }
 
 // The same, after the request check. Refused: 22, 23, 1, 2, 34, 4, 3.
@@ -56,12 +56,10 @@ pub fn live_prescribe_checked_delivered(
     ensures { (result, out.new) ≡ live_prescribe_checked_call (lent policy.now request.now bank.now)
         out.old }
 {
-    let slots = live_checked_call_outcome(policy, request, bank, DECISION_BYTES, out.len());
-    let outcome = slots.outcome;
-    if let Outcome::Refused(refusal) = outcome {
-        return refusal_word(refusal, 0);
+    match live_checked_call_outcome(policy, request, bank, DECISION_BYTES, out.len()) {
+        Ok(live) => traced_handed(Ok(traced_live(policy, request, bank, live)), out),
+        Err(refusal) => refusal_word(refusal, 0),
     }
-    traced_handed(traced_live(policy, request, bank, slots.live), out)
 }
 
 // The decision over the live records, with what each is told in the list. Refused: 22, 23, 1, 2, 34, 4 for the decision's room, 4 for the list's.
@@ -75,11 +73,11 @@ pub fn live_explain_delivered(
     ensures { ((result, out.new), list.new) ≡ live_explain_call (lent policy.now request.now bank.now)
         list.old out.old }
 {
-    let slots = live_call_outcome(policy, request, bank, UNCOUNTED_BYTES, out.len());
-    let outcome = slots.outcome;
-    if let Outcome::Refused(refusal) = outcome {
-        return refusal_word(refusal, 0);
+    match live_call_outcome(policy, request, bank, UNCOUNTED_BYTES, out.len()) {
+        Ok(live) => {
+            let prescribed = explain_among(policy_of(policy), bank, input_of(request), live, list);
+            decision_handed(prescribed, out)
+        }
+        Err(refusal) => refusal_word(refusal, 0),
     }
-    let prescribed = explain_among(policy_of(policy), bank, input_of(request), slots.live, list);
-    decision_handed(prescribed, out)
 }

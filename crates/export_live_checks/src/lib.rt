@@ -2,54 +2,41 @@
 // for how many are live.
 #![tactic(auto)]
 
-ghost use Rattle.std.specs.Prelude.{◌≡◌};
-ghost use Rattle.rules.specs.Refused.{first_fault, told_outcome};
-ghost use Rattle.rules.specs.declared.refusal.Outcome.TheVariants.{Refused};
+ghost use Rattle.std.specs.Prelude.{◌≡◌, length};
+ghost use Rattle.rules.specs.Refused.{refused, answered, unless};
+ghost use Rattle.rules.specs.Numbers.{told_number};
+ghost use Rattle.rules.specs.Slots.{live_in};
 ghost use Rattle.export_checks.specs.Checks.{lent};
-ghost use Rattle.export_live_checks.specs.LiveChecks.{live_lent_faults, live_policy_faults, live_call_faults, live_checked_faults, live_unless};
+ghost use Rattle.export_live_checks.specs.LiveChecks.{live_lent_faults, live_policy_faults, live_call_faults, live_checked_faults};
 
 use bank::unchecked::input_of;
 use call_checks::refuse::input_outcome;
-use live_slots::slots::{Slots, read_slots};
+use live_slots::slots::read_slots;
+use rules::Refusal;
 use rules::limits::REQUEST_BYTES;
-use rules::{Outcome, Refusal};
 use unpacking_policy::policy_lent_outcome;
 
-// Where a refusal comes first, none is told as live.
-fn refused(refusal: Refusal) -> Slots
-    ensures { result ≡ record { outcome = Refused refusal; live = 0 } }
-{
-    Slots {
-        outcome: Outcome::Refused(refusal),
-        live: 0,
-    }
-}
-
 // 1, 2 or 34 for the bank, then 4 where the answer needs more room.
-pub fn live_lent_outcome(bank: &[u8], needed: usize, room: usize) -> Slots
-    ensures outcome { told_outcome result.outcome ≡ first_fault (live_lent_faults bank.now needed room) }
-    ensures live { result.live ≡ live_unless (live_lent_faults bank.now needed room) bank.now }
+pub fn live_lent_outcome(bank: &[u8], needed: usize, room: usize) -> Result<u16, Refusal>
+    ensures { told_number result ≡ unless (live_lent_faults bank.now needed room) refused (answered (length (live_in bank.now))) }
 {
-    let slots = read_slots(bank);
-    let outcome = slots.outcome;
-    if let Outcome::Refused(refusal) = outcome {
-        return refused(refusal);
-    }
+    let live = read_slots(bank)?;
     if room < needed {
-        return refused(Refusal::NoRoom);
+        return Err(Refusal::NoRoom);
     }
-    slots
+    Ok(live)
 }
 
 // 22 or 23 for the policy, then 1, 2, 34 and 4.
-pub fn live_policy_outcome(policy: &[u8], bank: &[u8], needed: usize, room: usize) -> Slots
-    ensures outcome { told_outcome result.outcome ≡ first_fault (live_policy_faults policy.now bank.now needed room) }
-    ensures live { result.live ≡ live_unless (live_policy_faults policy.now bank.now needed room) bank.now }
+pub fn live_policy_outcome(
+    policy: &[u8],
+    bank: &[u8],
+    needed: usize,
+    room: usize,
+) -> Result<u16, Refusal>
+    ensures { told_number result ≡ unless (live_policy_faults policy.now bank.now needed room) refused (answered (length (live_in bank.now))) }
 {
-    let outcome = policy_lent_outcome(policy);
-    if let Outcome::Refused(refusal) = outcome {
-        return refused(refusal);
-    }
+    policy_lent_outcome(policy)?;
     live_lent_outcome(bank, needed, room)
 }
 
@@ -60,14 +47,11 @@ pub fn live_call_outcome(
     bank: &[u8],
     needed: usize,
     room: usize,
-) -> Slots
-    ensures outcome { told_outcome result.outcome ≡ first_fault (live_call_faults (lent policy.now request.now bank.now)
-        needed room) }
-    ensures live { result.live ≡ live_unless (live_call_faults (lent policy.now request.now bank.now) needed room)
-        bank.now }
+) -> Result<u16, Refusal>
+    ensures { told_number result ≡ unless (live_call_faults (lent policy.now request.now bank.now) needed room) refused (answered (length (live_in bank.now))) }
 {
     if request.len() != REQUEST_BYTES {
-        return refused(Refusal::WrongLength);
+        return Err(Refusal::WrongLength);
     }
     live_policy_outcome(policy, bank, needed, room)
 }
@@ -79,20 +63,10 @@ pub fn live_checked_call_outcome(
     bank: &[u8],
     needed: usize,
     room: usize,
-) -> Slots
-    ensures outcome { told_outcome result.outcome ≡ first_fault (live_checked_faults (lent policy.now request.now bank.now)
-        needed room) }
-    ensures live { result.live ≡ live_unless (live_checked_faults (lent policy.now request.now bank.now) needed room)
-        bank.now }
+) -> Result<u16, Refusal>
+    ensures { told_number result ≡ unless (live_checked_faults (lent policy.now request.now bank.now) needed room) refused (answered (length (live_in bank.now))) }
 {
-    let slots = live_call_outcome(policy, request, bank, needed, room);
-    let outcome = slots.outcome;
-    if let Outcome::Refused(refusal) = outcome {
-        return refused(refusal);
-    }
-    let checked = input_outcome(input_of(request), 0);
-    if let Outcome::Refused(refusal) = checked {
-        return refused(refusal);
-    }
-    slots
+    let live = live_call_outcome(policy, request, bank, needed, room)?;
+    input_outcome(input_of(request), 0)?;
+    Ok(live)
 }

@@ -12,18 +12,15 @@ use export_live_checks::{live_call_outcome, live_lent_outcome};
 use export_lookups::{PLACE_BYTES, WORD_BYTES, found_handed, utility_handed};
 use live_kernel::utility_for_model;
 use live_slots::slots::first_live;
-use rules::Outcome;
 
 // The slot of the first live record with an id. Refused: 1, 2, 34, 4.
 pub fn live_find_delivered(bank: &[u8], id: u32, out: &mut [u8]) -> u64
     ensures { (result, out.new) ≡ live_find_call bank.now id out.old }
 {
-    let slots = live_lent_outcome(bank, PLACE_BYTES, out.len());
-    let outcome = slots.outcome;
-    if let Outcome::Refused(refusal) = outcome {
+    if let Err(refusal) = live_lent_outcome(bank, PLACE_BYTES, out.len()) {
         return refusal_word(refusal, 0);
     }
-    found_handed(first_live(bank, id), out)
+    found_handed(Ok(first_live(bank, id)), out)
 }
 
 // The utility of one live model. Refused: 22, 23, 1, 2, 34, 4, 7.
@@ -36,9 +33,7 @@ pub fn live_utility_delivered(
 ) -> u64
     ensures { (result, out.new) ≡ live_utility_call (lent policy.now request.now bank.now) id out.old }
 {
-    let slots = live_call_outcome(policy, request, bank, WORD_BYTES, out.len());
-    let outcome = slots.outcome;
-    if let Outcome::Refused(refusal) = outcome {
+    if let Err(refusal) = live_call_outcome(policy, request, bank, WORD_BYTES, out.len()) {
         return refusal_word(refusal, 0);
     }
     utility_handed(

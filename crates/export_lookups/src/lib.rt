@@ -10,13 +10,12 @@ ghost use Rattle.export_checks.specs.Checks.{lent, word_size, handed};
 ghost use Rattle.export_lookups.specs.Lookups.{utility_bytes, utility_call, place_size, place_bytes, find_call, next_or, next_call};
 
 use bank::unchecked::{input_of, policy_of};
-use endian_signs::signed_bits;
 use endian_writing::put16;
 use explain_walk::next_eligible;
 use export_checks::{call_outcome, hand_u64, lent_outcome, refusal_word};
 use kernel::{find, utility_for_model};
+use rules::Refusal;
 use rules::limits::NO_PLACE;
-use rules::{Found, NextEligible, Outcome, Refusal, UtilityFound};
 
 // The bytes of a utility and of an entry's place, and of a model's place.
 pub const WORD_BYTES: usize = 8;
@@ -24,16 +23,17 @@ pub const WORD_BYTES: usize = 8;
 pub const PLACE_BYTES: usize = 2;
 
 // What is told in place of a next entry, where there is none.
-const NO_NEXT: u64 = 0xffff_ffff_ffff_ffff;
+const NO_NEXT: u64 = u64::MAX;
 
 // A utility, where it has room.
-pub fn utility_handed(found: UtilityFound, out: &mut [u8]) -> u64
+#[tactic(auto, unfolding(export_checks::specs::Checks::handed))]
+pub fn utility_handed(found: Result<i64, Refusal>, out: &mut [u8]) -> u64
     requires { word_size ≤ length out.old }
     ensures { (result, out.new) ≡ handed utility_bytes [] (told_utility found) out.old }
 {
     match found {
-        UtilityFound::Refused(refusal) => refusal_word(refusal, 0),
-        UtilityFound::Utility(utility) => hand_u64(out, signed_bits(utility)),
+        Ok(utility) => hand_u64(out, utility.cast_unsigned()),
+        Err(refusal) => refusal_word(refusal, 0),
     }
 }
 
@@ -41,8 +41,7 @@ pub fn utility_handed(found: UtilityFound, out: &mut [u8]) -> u64
 pub fn utility_delivered(policy: &[u8], request: &[u8], bank: &[u8], id: u32, out: &mut [u8]) -> u64
     ensures { (result, out.new) ≡ utility_call (lent policy.now request.now bank.now) id out.old }
 {
-    let outcome = call_outcome(policy, request, bank, WORD_BYTES, out.len());
-    if let Outcome::Refused(refusal) = outcome {
+    if let Err(refusal) = call_outcome(policy, request, bank, WORD_BYTES, out.len()) {
         return refusal_word(refusal, 0);
     }
     utility_handed(
@@ -52,20 +51,17 @@ pub fn utility_delivered(policy: &[u8], request: &[u8], bank: &[u8], id: u32, ou
 }
 
 // A model's place, where it has room.
-pub fn found_handed(found: Found, out: &mut [u8]) -> u64
+#[tactic(auto, unfolding(export_checks::specs::Checks::handed))]
+pub fn found_handed(found: Result<Option<u16>, Refusal>, out: &mut [u8]) -> u64
     requires { place_size ≤ length out.old }
     ensures { (result, out.new) ≡ handed place_bytes [] (told_found found) out.old }
 {
     match found {
-        Found::Refused(refusal) => refusal_word(refusal, 0),
-        Found::At(place) => {
-            put16(out, 0, place);
+        Ok(place) => {
+            put16(out, 0, place.unwrap_or(NO_PLACE));
             0
         }
-        Found::Nowhere => {
-            put16(out, 0, NO_PLACE);
-            0
-        }
+        Err(refusal) => refusal_word(refusal, 0),
     }
 }
 
@@ -73,8 +69,7 @@ pub fn found_handed(found: Found, out: &mut [u8]) -> u64
 pub fn find_delivered(bank: &[u8], id: u32, out: &mut [u8]) -> u64
     ensures { (result, out.new) ≡ find_call bank.now id out.old }
 {
-    let outcome = lent_outcome(bank, PLACE_BYTES, out.len());
-    if let Outcome::Refused(refusal) = outcome {
+    if let Err(refusal) = lent_outcome(bank, PLACE_BYTES, out.len()) {
         return refusal_word(refusal, 0);
     }
     found_handed(find(bank, id), out)
@@ -84,10 +79,7 @@ pub fn find_delivered(bank: &[u8], id: u32, out: &mut [u8]) -> u64
 fn next_place(list: &[u8], from: u64) -> u64
     ensures { result ≡ next_or (next_eligible_of list.now from) }
 {
-    match next_eligible(list, from as usize) {
-        NextEligible::At(place) => place as u64,
-        NextEligible::NoMore => NO_NEXT,
-    }
+    next_eligible(list, from as usize).map_or(NO_NEXT, |place| place as u64)
 }
 
 // The same, handed over. Refused: 4.

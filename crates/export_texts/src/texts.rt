@@ -1,4 +1,4 @@
-// Printed texts, each with its length before it.
+// Printed texts, each with its length before it. The three calls differ in the text alone: a closure that makes it could not promise which text it is.
 ghost use Rattle.std.specs.Prelude.{◌≡◌, ◌≤◌, length};
 ghost use Rattle.rules.specs.Numbers.{told_written};
 ghost use Rattle.rules.specs.Printed.{unit_text, ask_text};
@@ -10,19 +10,19 @@ use export_checks::{hand_u64, refusal_word};
 use program_ask::ask_text;
 use program_report::unit_text;
 use program_words::ask_words;
-use rules::{Refusal, Written};
+use rules::Refusal;
 
 // A text's length in bytes stands before it.
 const LENGTH_BYTES: usize = 8;
 
 // Puts a text's length before it, and answers the word: 4 where the text had no room.
-fn put_length(written: Written, out: &mut [u8]) -> u64
+fn put_length(written: Result<usize, Refusal>, out: &mut [u8]) -> u64
     requires { word_size ≤ length out.old }
     ensures { (result, out.new) ≡ headed (told_written written) out.old }
 {
     match written {
-        Written::Refused(_) => refusal_word(Refusal::NoRoom, 0),
-        Written::Bytes(size) => hand_u64(out, size as u64),
+        Ok(size) => hand_u64(out, size as u64),
+        Err(_) => refusal_word(Refusal::NoRoom, 0),
     }
 }
 

@@ -1,42 +1,20 @@
 // For other crates: the eight gates that a model meets, and the first that it fails.
-// A gate is its number, 1 to 8, in the order of document 01; 0 stands for none.
+// A gate is its number, 1 to 8, in the order of document 01, as the verdicts and the explanation records tell it; 0 stands for none, as in their bytes.
 #![tactic(auto)]
 
-ghost use Rattle.std.specs.Prelude.{◌≡◌, ◌+◌, ◌-◌, ◌%◌, ◌^◌, ◌≤◌};
+ghost use Rattle.std.specs.Prelude.{◌≡◌, ◌≤◌};
 ghost use Rattle.rules.specs.Limits.{max_provider_id};
 ghost use Rattle.rules.specs.Gates.{is_slow, is_unable, is_barred, is_elsewhere, gate_of};
 
 use rules::limits::MAX_PROVIDER_ID;
 use rules::{KernelInput, KernelModel};
 
-const MAX_U32: u32 = 0xffff_ffff;
-
-// A limit less one in 32 bits: no limit, 0, becomes the highest.
-fn limit_less_one(limit: u32) -> u32
-    ensures { result ≡ (limit + (2 ^ 32 - 1)) % 2 ^ 32 }
-{
-    if limit == 0 {
-        return MAX_U32;
-    }
-    limit - 1
-}
-
-// A latency less one, or 0.
-fn latency_less_one(ms: u32) -> u32
-    ensures { result ≡ ms - 1 }
-{
-    if ms == 0 {
-        return 0;
-    }
-    ms - 1
-}
-
 // Gate 3: there is a latency limit, and the model is above it. Both less one, a single comparison tells, so that the loop of a scan
-// reads no field of a record before its gate.
+// reads no field of a record before its gate. No limit, 0, becomes the highest.
 fn is_slow(model: KernelModel, input: KernelInput) -> bool
     ensures { result ≡ is_slow model input }
 {
-    limit_less_one(input.max_p95_latency_ms) < latency_less_one(model.p95_latency_ms)
+    input.max_p95_latency_ms.wrapping_sub(1) < model.p95_latency_ms.saturating_sub(1)
 }
 
 // Gate 4: a required capability is missing.
@@ -63,6 +41,7 @@ fn is_elsewhere(model: KernelModel, input: KernelInput) -> bool
 
 // The number of the first gate that the model fails; 0 where it passes all.
 // The order decides which reason a record counts for, so no test may change places with another.
+#[tactic(auto, unfolding(rules::specs::Gates::gate_of))]
 pub fn first_failed_gate(model: KernelModel, input: KernelInput) -> u8
     ensures { result ≡ gate_of model input }
 {

@@ -6,7 +6,8 @@ use Rattle.rules.specs.{declared.records.PolicySnapshot.PolicySnapshot, declared
 use Rattle.rules.proofs.Choices.{below-yes, below-no}
 use Rattle.kernel_stop.proofs.Stops.{open_free, by_high}
 use Rattle.kernel_ranking.specs.{State.top_of, State.state_of, State.start_of, declared.state.State.State}
-use Rattle.kernel_stop.specs.{Stop.told_stop, declared.Stop.Stop, declared.Stop.TheVariants.Open, declared.Stop.TheVariants.By}
+use Rattle.kernel_stop.specs.Stop.{told_stop}
+use Rattle.std.specs.Prelude.{Some, None}
 use Rattle.kernel_among.specs.Top.{top_in}
 
 module _ (p : PolicySnapshot) (q : KernelInput) (ls : List Listed) where
@@ -15,15 +16,14 @@ module _ (p : PolicySnapshot) (q : KernelInput) (ls : List Listed) where
   unfolding top_in
   top-free free = below-no 0 (stopped_by p q) _ _ (omega arith)
 
-  module _ {s : Stop} (told : told_stop s ≡ stopped_by p q) where
-    pub open-top : {t : State} → s ≡ Open → t ≡ state_of (judged p q ls) → t.top ≡ top_in p q ls
-    unfolding state_of
-    open-top e f = ap (λ (t : State). t.top) f ∙ sym (top-free (open_free p q told e))
+  pub open-top : {t : State} → told_stop None ≡ stopped_by p q → t ≡ state_of (judged p q ls) → t.top ≡ top_in p q ls
+  unfolding state_of
+  open-top told e = ap (λ (t : State). t.top) e ∙ sym (top-free (open_free p q told))
 
-    -- ONE THAT IS STOPPED ranks none
-    pub stopped-top : {r : KernelReason} {t : State} → s ≡ By r → t ≡ start_of → t.top ≡ top_in p q ls
-    unfolding top_in state_of ranking
-    stopped-top e f = ap (λ (t : State). t.top) f ∙ sym (below-yes 0 (stopped_by p q) _ _ (by_high p q told e))
+  -- ONE THAT IS STOPPED ranks none
+  pub stopped-top : (r : KernelReason) {t : State} → told_stop (Some r) ≡ stopped_by p q → t ≡ start_of → t.top ≡ top_in p q ls
+  unfolding top_in state_of ranking
+  stopped-top r told e = ap (λ (t : State). t.top) e ∙ sym (below-yes 0 (stopped_by p q) _ _ (by_high p q r told))
 
 -- Before the first record none is counted
 pub start_counts : {t : State} → t ≡ start_of → t.counts ≡ no_counts

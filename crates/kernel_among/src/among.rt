@@ -11,7 +11,7 @@ ghost use Rattle.kernel_among.specs.Less.{less_off};
 use kernel_decide::decide::{decision_of_scan, rejection_for};
 use kernel_ranking::state::{State, Top, start};
 use kernel_scan::{pricing_for, scan_on};
-use kernel_stop::{Stop, stopped_by};
+use kernel_stop::stopped_by;
 use rules::limits::RECORD_BYTES;
 use rules::{KernelDecision, KernelInput, PolicySnapshot, RejectionHistogram};
 
@@ -23,20 +23,13 @@ pub struct Decided {
 }
 
 // A state with so many fewer switched off.
-fn less_off(state: State, free: u16) -> State
+#[tactic(auto, unfolding(crate::specs::Less::less_off))]
+fn less_off(mut state: State, free: u16) -> State
     requires { free ≤ state.counts.disabled }
     ensures { result ≡ less_off state free }
 {
-    let mut counts = state.counts;
-    let off = counts.disabled;
-    counts.disabled = off - free;
-    let top = state.top;
-    let eligible = state.eligible;
-    State {
-        counts,
-        top,
-        eligible,
-    }
+    state.counts.disabled -= free;
+    state
 }
 
 // The decision over so many records, as `decide` makes it over all, with its counts and its best two. A stopped request has none.
@@ -46,29 +39,22 @@ pub fn decide_among(policy: PolicySnapshot, bank: &[u8], input: KernelInput, man
     ensures counts { result.counts ≡ counts_in policy input (among_of many bank.now) }
     ensures top { result.top ≡ top_in policy input (listed_of bank.now) }
 {
-    let stop = stopped_by(policy, input);
-    if let Stop::By(reason) = stop {
-        let decision = rejection_for(policy, input, reason, 0);
+    if let Some(reason) = stopped_by(policy, input) {
         let nothing = start();
-        let counts = nothing.counts;
-        let top = nothing.top;
         return Decided {
-            decision,
-            counts,
-            top,
+            decision: rejection_for(policy, input, reason, 0),
+            counts: nothing.counts,
+            top: nothing.top,
         };
     }
     let slots = (bank.len() / RECORD_BYTES) as u16;
     let pricing = pricing_for(policy, input);
     let all = scan_on(bank, 0, pricing, input, start());
     let state = less_off(all, slots - many);
-    let counts = state.counts;
-    let top = state.top;
-    let decision = decision_of_scan(policy, input, state, many);
     Decided {
-        decision,
-        counts,
-        top,
+        decision: decision_of_scan(policy, input, state, many),
+        counts: state.counts,
+        top: state.top,
     }
 }
 
@@ -82,6 +68,5 @@ pub fn decision_among(
     requires { Among many bank.now }
     ensures { told_decision result ≡ decision_of policy input (among_of many bank.now) }
 {
-    let decided = decide_among(policy, bank, input, many);
-    decided.decision
+    decide_among(policy, bank, input, many).decision
 }

@@ -9,12 +9,13 @@ ghost use Rattle.kernel_decide.specs.Decide.{chosen_from, decision_of_scan};
 use kernel_ranking::reason::dominant_rejection_reason;
 use kernel_ranking::state::{State, start};
 use kernel_scan::{pricing_for, scan_on};
-use kernel_stop::{Stop, stopped_by};
+use kernel_stop::stopped_by;
 use pricing_terms::utility_of_score;
 use rules::limits::{NO_PLACE, RECORD_BYTES};
 use rules::{KernelAction, KernelDecision, KernelInput, KernelReason, PolicySnapshot};
 
 // `reject`: a decision that chose nothing, for a reason.
+#[tactic(auto, unfolding(rules::specs::Decide::rejection))]
 pub fn rejection_for(
     policy: PolicySnapshot,
     input: KernelInput,
@@ -41,6 +42,7 @@ pub fn rejection_for(
 }
 
 // The requested model was chosen, or another one.
+#[tactic(auto, unfolding(rules::specs::Decide::executed_as, rules::specs::Choice::equal))]
 fn action_of(id: u32, requested: u32) -> KernelAction
     ensures { action_no result ≡ executed_as id requested }
 {
@@ -52,6 +54,7 @@ fn action_of(id: u32, requested: u32) -> KernelAction
 }
 
 // The reason beside it.
+#[tactic(auto, unfolding(rules::specs::Decide::executed_as, rules::specs::Choice::equal))]
 fn reason_of(id: u32, requested: u32) -> KernelReason
     ensures { reason_no result ≡ executed_as id requested }
 {
@@ -71,15 +74,12 @@ fn chosen(
 ) -> KernelDecision
     ensures { told_decision result ≡ chosen_from policy input state evaluated }
 {
-    let top = state.top;
-    let best = top.best;
-    let second = top.second;
-    let action = action_of(best.model_id, input.requested_model_id);
-    let reason = reason_of(best.model_id, input.requested_model_id);
+    let best = state.top.best;
+    let second = state.top.second;
     KernelDecision {
         request_sequence: input.request_sequence,
-        action,
-        reason,
+        action: action_of(best.model_id, input.requested_model_id),
+        reason: reason_of(best.model_id, input.requested_model_id),
         selected_model_id: best.model_id,
         selected_model_index: best.model_index,
         estimated_cost_microunits: best.cost,
@@ -94,6 +94,7 @@ fn chosen(
 }
 
 // The decision of a scan that has seen so many records. Where none is eligible, the reason of the largest count.
+#[tactic(auto, unfolding(crate::specs::Decide::decision_of_scan, rules::specs::Choice::equal))]
 pub fn decision_of_scan(
     policy: PolicySnapshot,
     input: KernelInput,
@@ -103,8 +104,12 @@ pub fn decision_of_scan(
     ensures { told_decision result ≡ decision_of_scan policy input state evaluated }
 {
     if state.eligible == 0 {
-        let counts = state.counts;
-        return rejection_for(policy, input, dominant_rejection_reason(counts), evaluated);
+        return rejection_for(
+            policy,
+            input,
+            dominant_rejection_reason(state.counts),
+            evaluated,
+        );
     }
     chosen(policy, input, state, evaluated)
 }
@@ -114,8 +119,7 @@ pub fn decide(policy: PolicySnapshot, bank: &[u8], input: KernelInput) -> Kernel
     requires { records_in (length bank.now) ≤ max_catalog_models }
     ensures { told_decision result ≡ decision_of policy input (listed_of bank.now) }
 {
-    let stop = stopped_by(policy, input);
-    if let Stop::By(reason) = stop {
+    if let Some(reason) = stopped_by(policy, input) {
         return rejection_for(policy, input, reason, 0);
     }
     let evaluated = (bank.len() / RECORD_BYTES) as u16;

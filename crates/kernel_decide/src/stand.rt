@@ -7,7 +7,7 @@ ghost use Rattle.kernel_scan.specs.Scan.{StandsIn};
 
 use crate::decide::{decision_of_scan, rejection_for};
 use kernel_scan::{pricing_for, scan_with};
-use kernel_stop::{Stop, stopped_by};
+use kernel_stop::stopped_by;
 use rules::limits::RECORD_BYTES;
 use rules::{KernelDecision, KernelInput, PolicySnapshot};
 
@@ -22,8 +22,7 @@ pub fn decide_with(
     requires { StandsIn (length bank.now) place (length stand.now) }
     ensures { told_decision result ≡ decision_of policy input (set (listed_of bank.now) place (listed place (model_of stand.now))) }
 {
-    let stop = stopped_by(policy, input);
-    if let Stop::By(reason) = stop {
+    if let Some(reason) = stopped_by(policy, input) {
         return rejection_for(policy, input, reason, 0);
     }
     let evaluated = (bank.len() / RECORD_BYTES) as u16;

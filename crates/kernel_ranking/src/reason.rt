@@ -14,6 +14,7 @@ pub struct Weighed {
 }
 
 // Of two, the later one, unless its count is the smaller.
+#[tactic(auto, unfolding(rules::specs::Count::heavier, rules::specs::Choice::below))]
 fn heavier_of(sofar: Weighed, count: u16, reason: KernelReason) -> Weighed
     ensures { told_weight result ≡ heavier (told_weight sofar) (weight count (reason_no reason)) }
 {
@@ -26,6 +27,7 @@ fn heavier_of(sofar: Weighed, count: u16, reason: KernelReason) -> Weighed
 
 // `dominant_rejection_reason`: the last of the largest counts, in document 01's order. That order is no other's: neither the gates' nor
 // the counts'. Where all are zero the last one's reason, 102, is the answer.
+#[tactic(auto, unfolding(rules::specs::Count::dominant_of))]
 pub fn dominant_rejection_reason(counts: RejectionHistogram) -> KernelReason
     ensures { reason_no result ≡ dominant_of counts }
 {

@@ -8,7 +8,8 @@ use pricing_terms::ZERO_SCORE;
 use rules::RejectionHistogram;
 use rules::limits::NO_PLACE;
 
-// The first two of the ranking. A place that nobody holds has the candidate `nobody`, below every eligible model.
+// The first two of the ranking. A place that nobody holds has the candidate `nobody`, below every eligible model, so that
+// the ranking of a record, a step of the scan's loop, has no case for it.
 #[derive(Clone, Copy)]
 pub struct Top {
     pub best: Candidate,
@@ -23,6 +24,7 @@ pub struct State {
 }
 
 // The candidate that nobody is: what a rejection shows, and below every eligible model, whose score is above that of 0.
+#[tactic(auto, unfolding(crate::specs::State::nobody))]
 pub fn nobody() -> Candidate
     ensures { result ≡ nobody }
 {
@@ -53,16 +55,16 @@ pub fn no_counts() -> RejectionHistogram
 }
 
 // Before the first record.
+#[tactic(auto, unfolding(crate::specs::State::state_of, rules::specs::Count::counts_of, rules::specs::Count::counts_from, rules::specs::Rank::ranking))]
 pub fn start() -> State
     ensures { result ≡ start_of }
 {
-    let top = Top {
-        best: nobody(),
-        second: nobody(),
-    };
     State {
         counts: no_counts(),
-        top,
+        top: Top {
+            best: nobody(),
+            second: nobody(),
+        },
         eligible: 0,
     }
 }

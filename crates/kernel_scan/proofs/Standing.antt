@@ -14,17 +14,14 @@ start_none = refl
 
 -- the parts before and after the place, as the code lends them
 abbrev pub before : List ℕ → ℕ → List ℕ
-before bank place = take (47 * place - 0) bank
+before bank place = take (47 * place) bank
 
 abbrev pub after : List ℕ → ℕ → List ℕ
 after bank place = take (length bank - (47 * place + 47)) (drop (47 * place + 47) bank)
 
 module _ (bank : List ℕ) (place : ℕ) (stand : List ℕ) (fits : StandsIn (length bank) place (length stand)) where
-  before-is : before bank place ≡ take (47 * place) bank
-  before-is = let e : 47 * place - 0 ≡ 47 * place = omega arith in ap (λ n. take n bank) e
-
   before-length : length (before bank place) ≡ 47 * place
-  before-length = ap length before-is ∙ length-take-le (47 * place) bank (omega arith)
+  before-length = length-take-le (47 * place) bank (omega arith)
 
   after_is : after bank place ≡ drop (47 * place + 47) bank
   after_is = take_all (length bank - (47 * place + 47)) (drop (47 * place + 47) bank) (rw length-drop (omega arith))
@@ -61,4 +58,4 @@ module _ (bank : List ℕ) (place : ℕ) (stand : List ℕ) (fits : StandsIn (le
         pub parts-scan : {s₃ : State} → s₃ ≡ scan_of pr q s₂ (placed_from (place + 1) (after bank place))
             → s₃ ≡ scan_of pr q start_of (set (listed_of bank) place (listed place (model_of stand)))
         parts-scan e₃ =
-            rw (e₃, e₂, e₁, e₀, before-is, after_is, placed-set bank place fits.inside stand fits.one, scan-append, scan-append)
+            rw (e₃, e₂, e₁, e₀, after_is, placed-set bank place fits.inside stand fits.one, scan-append, scan-append)

@@ -30,28 +30,19 @@ pub fn scan_on(part: &[u8], first: u16, pricing: Pricing, input: KernelInput, fr
     requires { Settled pricing × Room (length part.now) first from }
     ensures { result ≡ scan_of pricing input from (placed_from first part.now) }
 {
-    let n = part.len() / RECORD_BYTES;
-    let mut counts = from.counts;
-    let mut top = from.top;
-    let mut eligible = from.eligible;
-    let mut i = 0;
-    while i < n {
+    let mut state = from;
+    for i in 0..part.len() / RECORD_BYTES {
         let model = model_at(part, i);
         let verdict = verdict_of(pricing, input, model);
-        let place = first + (i as u16);
-        i += 1;
+        let place = first + i as u16;
         let Verdict::Eligible(terms) = verdict else {
-            counts = counted(counts, verdict);
+            state.counts = counted(state.counts, verdict);
             continue;
         };
-        eligible += 1;
-        top = ranked(top, entered(model, place, terms));
+        state.eligible += 1;
+        state.top = ranked(state.top, entered(model, place, terms));
     }
-    State {
-        counts,
-        top,
-        eligible,
-    }
+    state
 }
 
 // The state after a bank that has another record at a place: what is before the place, the stand-in's bytes, what is after it.
@@ -68,7 +59,7 @@ pub fn scan_with(
     let at = RECORD_BYTES * place;
     let after = at + RECORD_BYTES;
     let here = place as u16;
-    let before = scan_on(&bank[0..at], 0, pricing, input, start());
+    let before = scan_on(&bank[..at], 0, pricing, input, start());
     let there = scan_on(stand, here, pricing, input, before);
     scan_on(&bank[after..], here + 1, pricing, input, there)
 }

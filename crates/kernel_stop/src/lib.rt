@@ -7,21 +7,16 @@ ghost use Rattle.kernel_stop.specs.Stop.{told_stop};
 
 use rules::{KernelInput, KernelReason, PolicySnapshot};
 
-#[derive(Clone, Copy)]
-pub enum Stop {
-    Open,
-    By(KernelReason),
-}
-
 // The risk at or above the hard limit, else the confidence below the minimum.
-pub fn stopped_by(policy: PolicySnapshot, input: KernelInput) -> Stop
+#[tactic(auto, unfolding(crate::specs::Stop::told_stop, rules::specs::Decide::stopped_by, rules::specs::Choice::at_least, rules::specs::Choice::below))]
+pub fn stopped_by(policy: PolicySnapshot, input: KernelInput) -> Option<KernelReason>
     ensures { told_stop result ≡ stopped_by policy input }
 {
     if policy.hard_risk_limit_bps <= input.risk_bps {
-        return Stop::By(KernelReason::RiskHardLimit);
+        Some(KernelReason::RiskHardLimit)
+    } else if input.confidence_bps < policy.minimum_confidence_bps {
+        Some(KernelReason::ConfidenceHardLimit)
+    } else {
+        None
     }
-    if input.confidence_bps < policy.minimum_confidence_bps {
-        return Stop::By(KernelReason::ConfidenceHardLimit);
-    }
-    Stop::Open
 }

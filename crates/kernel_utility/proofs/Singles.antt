@@ -14,9 +14,9 @@ use Rattle.kernel_decide.proofs.Decisions.{score_back}
 
 -- THE STATE AFTER ONE RECORD TELLS ITS UTILITY, OR THAT IT IS NOT ELIGIBLE
 module _ (p : PolicySnapshot) (q : KernelInput) (place : ℕ) (m : KernelModel) where
-  single-worth : worth_from (state_of (judged p q (listed place m ∷ []))) ≡ if_eligible (verdict_of p q m)
+  single_worth : worth_from (state_of (judged p q (listed place m ∷ []))) ≡ if_eligible (verdict_of p q m)
   unfolding worth_from state_of ranking equal held_of
-  single-worth = go (eqb (verdict_of p q m).kind 4) refl
+  single_worth = go (eqb (verdict_of p q m).kind 4) refl
     where
       go : (t : Bool) → eqb (verdict_of p q m).kind 4 ≡ t
           → worth_from (record {
@@ -28,26 +28,28 @@ module _ (p : PolicySnapshot) (q : KernelInput) (place : ℕ) (m : KernelModel) 
       go true e = ap answered (score_back (verdict_of p q m).utility (verdict-worth p q m _ (eqb-true _ _ e)))
       go false e = refl
 
--- the part that the code lends
+-- the part that the code lends, from a position on
 abbrev pub only : List ℕ → ℕ → List ℕ
-only bank place = take (47 * place + 47 - 47 * place) (drop (47 * place) bank)
+only bank at = take (at + 47 - at) (drop at bank)
 
-module _ (bank : List ℕ) (place : ℕ) (inside : place < length bank / 47) where
-  only-is : only bank place ≡ take 47 (drop (47 * place) bank)
-  only-is = let e : 47 * place + 47 - 47 * place ≡ 47 = omega arith in ap (λ n. take n (drop (47 * place) bank)) e
+module _ (bank : List ℕ) (at : ℕ) (inside : at + 47 ≤ length bank) where
+  only_is : only bank at ≡ take 47 (drop at bank)
+  only_is = let e : at + 47 - at ≡ 47 = omega arith in ap (λ n. take n (drop at bank)) e
 
-  only-length : length (only bank place) ≡ 47
-  only-length = ap length only-is ∙ length-take-le 47 (drop (47 * place) bank) (simp length-drop (omega arith))
+  only_length : length (only bank at) ≡ 47
+  only_length = ap length only_is ∙ length-take-le 47 (drop at bank) (simp length-drop (omega arith))
 
-  pub only-room : {s : State} → s ≡ start_of → length bank / 47 ≤ 65535 → Room (length (only bank place)) place s
+  pub only_room : {s : State} (place : ℕ) → place < length bank / 47 → s ≡ start_of → length bank / 47 ≤ 65535 → Room (length (only bank at)) place s
   unfolding state_of counts_of counts_from
-  only-room e h = rw (only-length, e) (record { places = omega arith; counts = omega arith })
+  only_room place there e h = rw (only_length, e) (record { places = omega arith; counts = omega arith })
 
-  pub only-worth : (p : PolicySnapshot) (q : KernelInput) {pr : Pricing} {from s : State} → pr ≡ pricing_of p q → from ≡ start_of
-      → s ≡ scan_of pr q from (placed_from place (only bank place)) → worth_from s ≡ if_eligible (verdict_of p q (model_at bank place))
-  only-worth p q {pr} {from} {s} priced start run =
+module _ (bank : List ℕ) (place : ℕ) (inside : 47 * place + 47 ≤ length bank) where
+  pub only_worth : (p : PolicySnapshot) (q : KernelInput) {pr : Pricing} {from s : State} → pr ≡ pricing_of p q → from ≡ start_of
+      → s ≡ scan_of pr q from (placed_from place (only bank (47 * place))) → worth_from s ≡ if_eligible (verdict_of p q (model_at bank place))
+  only_worth p q {pr} {from} {s} priced start run =
+      let at : ℕ = 47 * place in
       let l = listed place (model_at bank place) in
-      let o : placed_from place (only bank place) ≡ l ∷ [] = ap (placed_from place) only-is
-      ∙ placed_one place (take 47 (drop (47 * place) bank)) (sym (ap length only-is) ∙ only-length) in
+      let o : placed_from place (only bank at) ≡ l ∷ [] = ap (placed_from place) (only_is bank at inside)
+      ∙ placed_one place (take 47 (drop at bank)) (sym (ap length (only_is bank at inside)) ∙ only_length bank at inside) in
       let e : s ≡ state_of (judged p q (l ∷ [])) = run ∙ rw (priced, start, o) (scan_run p q start_of (l ∷ []) ∙ run-start p q (l ∷ [])) in
-      rw e (single-worth p q place (model_at bank place))
+      rw e (single_worth p q place (model_at bank place))

@@ -14,46 +14,52 @@ use call_checks::listing::first_listed;
 use call_checks::refuse::bank_outcome;
 use kernel_ranking::state::{State, start};
 use kernel_scan::{pricing_for, scan_on};
-use kernel_stop::{Stop, stopped_by};
+use kernel_stop::stopped_by;
 use pricing_terms::utility_of_score;
 use rules::limits::RECORD_BYTES;
-use rules::{Found, KernelInput, Outcome, PolicySnapshot, Refusal, UtilityFound};
+use rules::{KernelInput, PolicySnapshot, Refusal};
 
 // The best one's utility, or 7 where nothing is eligible.
-fn worth_of(state: State) -> UtilityFound
+#[tactic(auto, unfolding(crate::specs::Single::worth_from, rules::specs::Choice::equal))]
+fn worth_of(state: State) -> Result<i64, Refusal>
     ensures { told_utility result ≡ worth_from state }
 {
     if state.eligible == 0 {
-        return UtilityFound::Refused(Refusal::NotEligible);
+        return Err(Refusal::NotEligible);
     }
-    let top = state.top;
-    let best = top.best;
-    UtilityFound::Utility(utility_of_score(best.score))
+    Ok(utility_of_score(state.top.best.score))
 }
 
 // The utility of the model at a place.
-fn utility_at(policy: PolicySnapshot, bank: &[u8], input: KernelInput, place: u16) -> UtilityFound
+fn utility_at(
+    policy: PolicySnapshot,
+    bank: &[u8],
+    input: KernelInput,
+    place: u16,
+) -> Result<i64, Refusal>
     requires { (place < records_in (length bank.now)) × (records_in (length bank.now) ≤ max_catalog_models) }
     ensures { told_utility result ≡ if_eligible (verdict_of policy input (model_at bank.now place)) }
 {
-    let at = RECORD_BYTES * (place as usize);
-    let end = at + RECORD_BYTES;
-    let pricing = pricing_for(policy, input);
-    worth_of(scan_on(&bank[at..end], place, pricing, input, start()))
+    let at = RECORD_BYTES * usize::from(place);
+    let record = &bank[at..at + RECORD_BYTES];
+    worth_of(scan_on(record, place, pricing_for(policy, input), input, start()))
 }
 
 // The utility of the first listed model with an id, in a bank of whole records.
-pub fn utility_in(policy: PolicySnapshot, bank: &[u8], input: KernelInput, id: u32) -> UtilityFound
+pub fn utility_in(
+    policy: PolicySnapshot,
+    bank: &[u8],
+    input: KernelInput,
+    id: u32,
+) -> Result<i64, Refusal>
     requires { records_in (length bank.now) ≤ max_catalog_models }
     ensures { told_utility result ≡ utility_in policy input id (listed_of bank.now) }
 {
-    let stop = stopped_by(policy, input);
-    if let Stop::By(_) = stop {
-        return UtilityFound::Refused(Refusal::NotEligible);
+    if stopped_by(policy, input).is_some() {
+        return Err(Refusal::NotEligible);
     }
-    let found = first_listed(bank, id);
-    let Found::At(place) = found else {
-        return UtilityFound::Refused(Refusal::NotEligible);
+    let Some(place) = first_listed(bank, id) else {
+        return Err(Refusal::NotEligible);
     };
     utility_at(policy, bank, input, place)
 }
@@ -65,12 +71,9 @@ pub fn utility_for_model(
     bank: &[u8],
     input: KernelInput,
     id: u32,
-) -> UtilityFound
+) -> Result<i64, Refusal>
     ensures { told_utility result ≡ utility_for_model_of policy input id bank.now }
 {
-    let outcome = bank_outcome(bank.len());
-    if let Outcome::Refused(refusal) = outcome {
-        return UtilityFound::Refused(refusal);
-    }
+    bank_outcome(bank.len())?;
     utility_in(policy, bank, input, id)
 }

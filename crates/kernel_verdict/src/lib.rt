@@ -32,6 +32,7 @@ pub struct Candidate {
 }
 
 // By the score: not positive, or eligible.
+#[tactic(auto, unfolding(crate::specs::Verdict::by_score, rules::specs::Choice::below))]
 fn by_score(terms: ScoredTerms) -> Verdict
     ensures { result ≡ by_score terms }
 {
@@ -43,6 +44,7 @@ fn by_score(terms: ScoredTerms) -> Verdict
 }
 
 // A gate that fails, then the budget, then the utility. Only the loop of the scan calls this, so that it is compiled into it.
+#[tactic(auto, unfolding(crate::specs::Verdict::verdict_in, rules::specs::Choice::below))]
 pub fn verdict_of(pricing: Pricing, input: KernelInput, model: KernelModel) -> Verdict
     requires { Settled pricing }
     ensures { result ≡ verdict_in pricing input model }
@@ -51,8 +53,7 @@ pub fn verdict_of(pricing: Pricing, input: KernelInput, model: KernelModel) -> V
     if 0 < gate {
         return Verdict::Rejected(gate);
     }
-    let rounding = pricing.rounding;
-    let cost = pricing_cost::cost(rounding, model, input);
+    let cost = pricing_cost::cost(pricing.rounding, model, input);
     if input.budget_limit_microunits < cost {
         return Verdict::OverBudget(cost);
     }
@@ -60,6 +61,7 @@ pub fn verdict_of(pricing: Pricing, input: KernelInput, model: KernelModel) -> V
 }
 
 // The counts with one more record that was told so; an eligible one raises none.
+#[tactic(auto, unfolding(crate::specs::Verdict::counted_of))]
 pub fn counted(counts: RejectionHistogram, verdict: Verdict) -> RejectionHistogram
     requires { total counts < max_catalog_models }
     ensures { result ≡ counted_of counts verdict }
@@ -73,6 +75,7 @@ pub fn counted(counts: RejectionHistogram, verdict: Verdict) -> RejectionHistogr
 }
 
 // An eligible model as it enters the ranking.
+#[tactic(auto, unfolding(crate::specs::Verdict::entering_of))]
 pub fn entered(model: KernelModel, place: u16, terms: ScoredTerms) -> Candidate
     ensures { result ≡ entering_of model place terms }
 {

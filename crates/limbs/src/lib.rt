@@ -8,9 +8,6 @@ ghost use Rattle.rules.specs.Wide.{val, val_z};
 
 use rules::{SignedWide, Wide};
 
-// The highest number of a u64.
-const MAX_U64: u64 = 0xffff_ffff_ffff_ffff;
-
 // x itself: the Rust's `i128::from` and `u128::from`.
 pub fn of_one(x: u64) -> Wide
     ensures { val result ≡ x }
@@ -23,34 +20,21 @@ pub fn add(a: Wide, b: Wide) -> Wide
     requires { val a + val b < 2 ^ 126 }
     ensures { val result ≡ val a + val b }
 {
-    let ah = a.hi;
-    let al = a.lo;
-    let bh = b.hi;
-    let bl = b.lo;
-    if bl <= MAX_U64 - al {
-        return Wide {
-            hi: ah + bh,
-            lo: al + bl,
-        };
-    }
-    Wide {
-        hi: ah + bh + 1,
-        lo: al - (MAX_U64 - bl) - 1,
-    }
+    let (lo, carry) = a.lo.carrying_add(b.lo, false);
+    let hi = u64::from(carry) + a.hi + b.hi;
+    Wide { hi, lo }
 }
 
 // Whether a is below b.
 pub fn is_less(a: Wide, b: Wide) -> bool
     ensures { result ≡ ltb (val a) (val b) }
 {
-    let ah = a.hi;
-    let al = a.lo;
-    let bh = b.hi;
-    let bl = b.lo;
-    if ah == bh {
-        return al < bl;
+    // By limb: for the order of `(hi, lo)` as a pair, which says the same, no proof was found.
+    if a.hi == b.hi {
+        a.lo < b.lo
+    } else {
+        a.hi < b.hi
     }
-    ah < bh
 }
 
 // a less b, where b is not above a.
@@ -58,20 +42,9 @@ fn without(a: Wide, b: Wide) -> Wide
     requires { val b ≤ val a }
     ensures { val result ≡ val a - val b }
 {
-    let ah = a.hi;
-    let al = a.lo;
-    let bh = b.hi;
-    let bl = b.lo;
-    if bl <= al {
-        return Wide {
-            hi: ah - bh,
-            lo: al - bl,
-        };
-    }
-    Wide {
-        hi: ah - bh - 1,
-        lo: al + (MAX_U64 - bl) + 1,
-    }
+    let (lo, borrow) = a.lo.borrowing_sub(b.lo, false);
+    let hi = a.hi - (u64::from(borrow) + b.hi);
+    Wide { hi, lo }
 }
 
 // a less b, exact, with its sign: the subtractions before `clamp_i128_to_i64`. Where the two are level it is not negative.
@@ -79,14 +52,15 @@ pub fn difference(a: Wide, b: Wide) -> SignedWide
     ensures { (val_z result ≡ pos (val a) -ℤ pos (val b)) × (result.negative ≡ ltb (val a) (val b)) }
 {
     if is_less(a, b) {
-        return SignedWide {
+        SignedWide {
             negative: true,
             size: without(b, a),
-        };
-    }
-    SignedWide {
-        negative: false,
-        size: without(a, b),
+        }
+    } else {
+        SignedWide {
+            negative: false,
+            size: without(a, b),
+        }
     }
 }
 
@@ -94,8 +68,5 @@ pub fn difference(a: Wide, b: Wide) -> SignedWide
 pub fn held(w: Wide) -> u64
     ensures { result ≡ min max_u64 (val w) }
 {
-    if w.hi == 0 {
-        return w.lo;
-    }
-    MAX_U64
+    if w.hi == 0 { w.lo } else { u64::MAX }
 }

@@ -1,7 +1,7 @@
 -- A limb's division, bit by bit: what a turn keeps, in any base 2 * H and then at 2 ^ 64, and how two limbs make a
 -- quotient. Assumes nothing.
 use Rattle.rules.proofs.Kit.{◌≡◌, sym, ap, ◌∙◌, ℕ, ◌+◌, ◌*◌, ◌/◌, ◌%◌, ◌-◌, ◌^◌, ◌<◌, ◌≤◌, div-add-mod', pow-suc, add-one, arith}
-use lib.{Arith.digits_div, Pow.pow_mono}
+use lib.{Arith.digits_div}
 use Rattle.rules.specs.Wide.{limbs}
 
 -- one bit more doubles
@@ -21,8 +21,8 @@ bit_le : {s : ℕ} → s < 2 ^ 64 → s / 2 ^ 63 ≤ 1
 bit_le l = omega arith
 
 module _ (d q r b p n : ℕ) where
-  sum-zero : p ≡ q * 2 → n ≡ r * 2 + b → p * d + n ≡ (q * d + r) * 2 + b
-  sum-zero e f = omega (arith, ap (λ k. k * d) e)
+  sum_zero : p ≡ q * 2 → n ≡ r * 2 + b → p * d + n ≡ (q * d + r) * 2 + b
+  sum_zero e f = omega (arith, ap (λ k. k * d) e)
 
   sum_one : d ≤ r * 2 + b → p ≡ q * 2 + 1 → n ≡ r * 2 + b - d → p * d + n ≡ (q * d + r) * 2 + b
   sum_one h e f = omega (arith, ap (λ k. k * d) e)
@@ -41,46 +41,29 @@ pub record Turned (X d q r s i : ℕ) : Type 0 where
   pub below : r < d
   pub room : q < 2 ^ i
   pub limb : s < 2 ^ 64
-  pub turns : i ≤ 64
-
-pub unturned : (d r s : ℕ) → r < d → s < 2 ^ 64 → Turned (limbs r s) d 0 r s 0
-unturned d r s p l =
-    record { whole = ap (λ n. limbs n s) {x = 0 * d + r} {y = r} (omega arith) ∙ omega arith; below = p; room = omega arith; limb = l; turns = omega arith }
 
 module _ {X d q r s i : ℕ} (t : Turned X d q r s i) where
-  -- the remainder with the next bit is small, and the quotient has room for that bit's place
-  pub next_small : d < 2 ^ 32 → r * 2 + s / 2 ^ 63 < 2 ^ 64
-  next_small p = omega (arith, bit_le t.limb)
-
-  pub next-room : i < 64 → q < 2 ^ 63
-  next-room p = omega (arith, pow_mono {i = i} {j = 63} (omega arith))
-
   next : (M : ℕ) → M ≡ (q * d + r) * 2 + s / 2 ^ 63 → limbs M (s % 2 ^ 63 * 2) ≡ X * 2 ^ (i + 1)
   unfolding limbs
   next M = read (2 ^ 63) X i s (q * d + r) M t.whole
 
-  -- a turn to the state (p, n, u), which gives the quotient a zero, and one that gives it a one
-  module _ (p n u : ℕ) (k : i < 64) (g : u ≡ s % 2 ^ 63 * 2) where
-    pub turn-zero : r * 2 + s / 2 ^ 63 < d → p ≡ q * 2 → n ≡ r * 2 + s / 2 ^ 63 → Turned X d p n u (i + 1)
-    turn-zero h e f = record {
-      whole = ap (limbs (p * d + n)) g ∙ next (p * d + n) (sum-zero d q r _ p n e f);
+  -- a turn to the quotient p and the remainder n, which gives the quotient a zero, and one that gives it a one
+  module _ (p n : ℕ) where
+    pub turn_zero : r * 2 + s / 2 ^ 63 < d → p ≡ q * 2 → n ≡ r * 2 + s / 2 ^ 63 → Turned X d p n (s % 2 ^ 63 * 2) (i + 1)
+    turn_zero h e f = record {
+      whole = next (p * d + n) (sum_zero d q r _ p n e f);
       below = omega arith;
       room = omega (arith, twice i);
       limb = omega arith;
-      turns = omega arith;
     }
 
-    pub turn_one : d ≤ r * 2 + s / 2 ^ 63 → p ≡ q * 2 + 1 → n ≡ r * 2 + s / 2 ^ 63 - d → Turned X d p n u (i + 1)
+    pub turn_one : d ≤ r * 2 + s / 2 ^ 63 → p ≡ q * 2 + 1 → n ≡ r * 2 + s / 2 ^ 63 - d → Turned X d p n (s % 2 ^ 63 * 2) (i + 1)
     turn_one h e f =
         record {
-          whole = ap (limbs (p * d + n)) g ∙ next (p * d + n) (sum_one d q r _ p n h e f);
+          whole = next (p * d + n) (sum_one d q r _ p n h e f);
           below = once d q r _ p n t.below (bit_le t.limb) f;
-          room = omega (
-            arith,
-            twice i,
-          );
+          room = omega (arith, twice i);
           limb = omega arith;
-          turns = omega arith;
         }
 
   -- after the last turn
@@ -88,8 +71,8 @@ module _ {X d q r s i : ℕ} (t : Turned X d q r s i) where
   unfolding limbs
   last = all_read (2 ^ 64) X (q * d + r) s t.limb
 
-  pub all-turned : 64 ≤ i → q * d + r ≡ X
-  all-turned h = let e : i ≡ 64 = omega arith in last (t.whole ∙ ap (λ n. X * 2 ^ n) e)
+  pub all_turned : i ≡ 64 → q * d + r ≡ X
+  all_turned e = last (t.whole ∙ ap (λ n. X * 2 ^ n) e)
 
 -- two limbs, one after the other: nothing is carried to the upper one, which leaves r to the lower one
 pub two_quotients : (d hi lo q r t u : ℕ) → q * d + r ≡ limbs 0 hi → t * d + u ≡ limbs r lo → u < d → limbs q t ≡ limbs hi lo / d

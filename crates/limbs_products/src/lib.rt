@@ -47,16 +47,14 @@ fn divide_limb(limb: u64, carried: u64, d: u64) -> Division
     let mut quotient = 0;
     let mut rem = carried;
     let mut rest = limb;
-    let mut turns = 0;
-    while turns < LIMB_BITS {
+    for _turn in 0..LIMB_BITS {
         rem = rem * 2 + rest / TOP_BIT;
         rest = rest % TOP_BIT * 2;
-        quotient = quotient * 2;
+        quotient *= 2;
         if d <= rem {
-            rem = rem - d;
-            quotient = quotient + 1;
+            rem -= d;
+            quotient += 1;
         }
-        turns += 1;
     }
     Division { quotient, rem }
 }

@@ -1,35 +1,22 @@
 -- The bank while its gaps are being closed: the live ones of its first slots at the front, all behind them as it was. Assumes nothing.
-use Rattle.rules.proofs.Kit.{ℕ, ◌+◌, ◌-◌, ◌*◌, ◌/◌, ◌%◌, ◌≤◌, ◌<◌, ◌≡◌, sym, ap, ◌∙◌, List, [], ◌∷◌, ◌++◌, append_assoc, append-nil, arith}
-use Rattle.rules.proofs.Kit.{add-one, length, get_or, take, drop, replicate, length-append, length-drop, length-take-le, take-append-drop, drop_of_length-le}
-use Rattle.rules.proofs.Kit.{take_all, take_at, drop-drop, drop-append-add}
-use lib.ListN.{length-replicate, get_or-replicate}
+use Rattle.rules.proofs.Kit.{ℕ, refl, ◌+◌, ◌-◌, ◌*◌, ◌/◌, ◌%◌, ◌≤◌, ◌≡◌, sym, ap, ◌∙◌, List, [], ◌∷◌, ◌++◌, append_assoc, append-nil, arith}
+use Rattle.rules.proofs.Kit.{add-one, length, take, drop, replicate, length-append, length-drop, length-take-le, take-append-drop, drop_of_length-le}
+use Rattle.rules.proofs.Kit.{take_at, drop-drop, drop-append-add}
 use Rattle.rules.specs.{Bytes.filled, Records.record_part, Trust.id_of, Trust.records_from, Trust.records_of, Trust.joined, Slots.live_slots}
 use Rattle.rules.specs.{Slots.live_faults, Slots.live_in, Edits.spent_faults, Edits.closed_up, Edits.compacted, Edits.raised_of, Edits.compact_faults}
 use Rattle.rules.specs.{Edits.compact_of, Edits.compact_bank, Refused.refused, Refused.answered, Refused.unless, Refused.first_fault, Refused.told_outcome}
-use Rattle.rules.specs.{Refused.told_refusal, declared.records.PolicySnapshot.PolicySnapshot, declared.refusal.Refusal.Refusal, declared.refusal.Outcome.Outcome}
-use Rattle.rules.specs.{declared.refusal.Outcome.TheVariants.Refused}
+use Rattle.rules.specs.{Numbers.told_edited, Numbers.told_number, declared.records.PolicySnapshot.PolicySnapshot, declared.refusal.Refusal.Refusal}
 use Rattle.rules.proofs.{Chunks.records_length, Chunks.records_snoc, Chunks.whole_records, Chunks.joined-append, Chunks.joined_length}
-use Rattle.rules.proofs.{Faults.none_first, Faults.unless_refused, Faults.unless_none}
+use Rattle.rules.proofs.{Faults.unless_refused, Faults.exit_answer, Faults.passed}
 use Rattle.rules.proofs.Slots.{live_many, live-left, live-kept, live-none, live-append, live-fewer, live-each, slots_length, free_joined}
 use Rattle.endian_writing.specs.Put.{patched}
-use Rattle.sorting.proofs.Copies.{overlaid}
+use Rattle.live_slots.proofs.Told.{number_passed}
+use Rattle.std.specs.Prelude.{Result, Ok, Err, IsErrAnd, ⊤}
 
--- ---- zeros
+-- ---- free bytes
 
 abbrev pub zeros : ℕ → List ℕ
 zeros n = replicate n 0
-
-pub zeros_length : (n : ℕ) → length (zeros n) ≡ n
-zeros_length n = length-replicate {A = ℕ} n 0
-
-pub zeros_at : (n k : ℕ) → k < n → 0 ≡ get_or (zeros n) k 0
-zeros_at n k h = sym (get_or-replicate {A = ℕ} n k 0 0 h)
-
-pub zeros_last : (d : List ℕ) (k : ℕ) → k ≡ length d → overlaid d (zeros (length d)) k ≡ zeros (length d)
-unfolding overlaid
-zeros_last d k e =
-    let all : take (length d) (zeros (length d)) ≡ zeros (length d) = take_all (length d) (zeros (length d)) (omega (arith, zeros_length (length d))) in
-    rw (e, all, drop_of_length-le d {i = length d} (omega arith), append-nil)
 
 -- ---- the state of the loop
 
@@ -151,17 +138,18 @@ cleared s b ys k whole its was back =
 
 module _ (p : PolicySnapshot) (bank : List ℕ) where
   -- REFUSED, it changes nothing
-  pub compact-refused : {o : Outcome} {r : Refusal} → o ≡ Refused r → told_outcome o ≡ first_fault (live_faults bank ++ spent_faults p)
-      → (refused (told_refusal r) ≡ compact_of p bank) × (bank ≡ compact_bank p bank)
+  pub compact-refused : (r : Result (PolicySnapshot × ℕ) Refusal) (k : Refusal) → IsErrAnd r (λ e. e ≡ k)
+      → told_outcome (Err k) ≡ first_fault (live_faults bank ++ spent_faults p) → (told_edited r ≡ compact_of p bank) × (bank ≡ compact_bank p bank)
   unfolding compact_of compact_bank compact_faults
-  compact-refused by told = (sym (unless_refused _ refused _ by told), sym (unless_refused _ (λ f. bank) _ by told))
+  compact-refused r k handed told = (exit_answer _ r k _ _ handed told, sym (unless_refused _ (λ f. bank) _ refl told))
 
   -- DONE, it tells how many are live
-  pub compact-done : {q : PolicySnapshot} {live : ℕ} {exit : List ℕ} → live_faults bank ++ spent_faults p ≡ [] → q ≡ raised_of p
-      → live ≡ unless (live_faults bank) (λ f. 0) (length (live_in bank)) → exit ≡ compacted bank
+  pub compact-done : {u : ⊤} {q : PolicySnapshot} {live : ℕ} {exit : List ℕ}
+      → told_number (Ok live) ≡ unless (live_faults bank) refused (answered (length (live_in bank))) → told_outcome (Ok u) ≡ first_fault (spent_faults p)
+      → q ≡ raised_of p → exit ≡ compacted bank
       → (answered (record { policy = q; number = live }) ≡ compact_of p bank) × (exit ≡ compact_bank p bank)
   unfolding compact_of compact_bank compact_faults
-  compact-done {q} {live} clean raised its closed =
-      let passed : live_faults bank ≡ [] = none_first (live_faults bank) (spent_faults p) clean in
-      let many : live ≡ length (live_slots (records_of bank)) = its ∙ unless_none _ (λ f. 0) (length (live_in bank)) passed ∙ live_many bank in
-      rw clean (rw (raised, many), closed)
+  compact-done {u} {q} {live} read unspent raised closed =
+      let slots = number_passed live (live_faults bank) (length (live_in bank)) read in
+      let many : live ≡ length (live_slots (records_of bank)) = slots.1 ∙ live_many bank in
+      rw (slots.0, passed (spent_faults p) unspent) (rw (raised, many), closed)

@@ -1,5 +1,5 @@
 // Live records move down, one after the other, and what is left behind them is cleared. No byte is lost: a record's new slot is at or below its old one.
-ghost use Rattle.std.specs.Prelude.{◌≡◌, ◌+◌, ◌*◌, ◌%◌, ◌≤◌, length, replicate};
+ghost use Rattle.std.specs.Prelude.{◌≡◌, ◌+◌, ◌*◌, ◌%◌, ◌≤◌, length};
 ghost use Rattle.rules.specs.Limits.{record_bytes};
 ghost use Rattle.rules.specs.Bytes.{filled};
 ghost use Rattle.rules.specs.Records.{record_part};
@@ -9,24 +9,26 @@ ghost use Rattle.rules.specs.Slots.{live_slots};
 ghost use Rattle.rules.specs.Edits.{compacted, compact_of, compact_bank};
 ghost use Rattle.endian_writing.specs.Put.{patched};
 
-use call_checks::refuse::first_refused;
 use live_edits::epoch::{raised, spent_outcome};
 use live_slots::slots::read_slots;
 use rules::limits::RECORD_BYTES;
-use rules::{Edited, Outcome, PolicySnapshot};
+use rules::{PolicySnapshot, Refusal};
 use sorting::insertion::id_at;
-use sorting::mover::taken;
-use splice::put_bytes;
+
+// The id of a free slot.
+const FREE: u32 = 0;
 
 // The record at one place written over the one at another.
 fn moved(bank: &mut [u8], from: usize, to: usize)
     requires { (record_bytes * from + record_bytes ≤ length bank.old) × (to ≤ from) }
     ensures { bank.new ≡ patched bank.old (record_bytes * to) (record_part bank.old from) }
 {
+    // Held in between, so that the copies have a length known early; `copy_within` takes some three times the instructions.
     if to < from {
-        let bytes = taken(bank, RECORD_BYTES * from);
-        let at = RECORD_BYTES * to;
-        put_bytes(bank, at, &bytes);
+        let at = RECORD_BYTES * from;
+        let bytes: [u8; RECORD_BYTES] = bank[at..at + RECORD_BYTES].try_into().unwrap();
+        let start = RECORD_BYTES * to;
+        bank[start..start + RECORD_BYTES].copy_from_slice(&bytes);
     }
 }
 
@@ -36,31 +38,14 @@ fn closed(bank: &mut [u8]) -> usize
     ensures live { result ≡ length (live_slots (records_of bank.old)) }
     ensures exit { bank.new ≡ filled (joined (live_slots (records_of bank.old))) bank.old }
 {
-    let n = bank.len() / RECORD_BYTES;
     let mut live = 0;
-    let mut i = 0;
-    while i < n {
-        let id = id_at(bank, i);
-        if id == 0 {
-            i += 1;
-            continue;
+    for i in 0..bank.len() / RECORD_BYTES {
+        if id_at(bank, i) != FREE {
+            moved(bank, i, live);
+            live += 1;
         }
-        moved(bank, i, live);
-        live += 1;
-        i += 1;
     }
     live
-}
-
-// Every byte 0.
-fn clear(part: &mut [u8])
-    ensures { part.new ≡ replicate (length part.old) 0 }
-{
-    let mut k = 0;
-    while k < part.len() {
-        part[k] = 0;
-        k += 1;
-    }
 }
 
 // The gaps closed: the live records in their order, then free slots.
@@ -69,22 +54,16 @@ fn close(bank: &mut [u8])
     ensures { bank.new ≡ compacted bank.old }
 {
     let live = closed(bank);
-    let at = RECORD_BYTES * live;
-    clear(&mut bank[at..]);
+    bank[RECORD_BYTES * live..].fill(0);
 }
 
 // `compact`: the gaps closed, the order kept, and how many records are live. Refused: 1, 2, 34, 27.
-pub fn compact(policy: PolicySnapshot, bank: &mut [u8]) -> Edited
+pub fn compact(policy: PolicySnapshot, bank: &mut [u8]) -> Result<(PolicySnapshot, u16), Refusal>
     ensures answer { told_edited result ≡ compact_of policy bank.old }
     ensures exit { bank.new ≡ compact_bank policy bank.old }
 {
-    let slots = read_slots(bank);
-    let read = slots.outcome;
-    let outcome = first_refused(read, spent_outcome(policy));
-    if let Outcome::Refused(refusal) = outcome {
-        return Edited::Refused(refusal);
-    }
+    let live = read_slots(bank)?;
+    spent_outcome(policy)?;
     close(bank);
-    let live = slots.live;
-    Edited::Done(raised(policy), live)
+    Ok((raised(policy), live))
 }

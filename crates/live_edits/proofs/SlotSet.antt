@@ -2,13 +2,14 @@
 use Rattle.rules.proofs.Kit.{ℕ, suc, ◌+◌, ◌-◌, ◌*◌, ◌/◌, ◌%◌, ◌≤◌, ◌<◌, ◌≡◌, refl, sym, ◌∙◌, List, [], arith, eq-eqb, ne_eqb, length, drop, set, take_all}
 use Rattle.rules.proofs.Kit.{length-drop}
 use lib.Seq.{set_split}
-use Rattle.rules.specs.{Bytes.number_at, Records.model_of, Refused.refused, Refused.answered, Refused.fault, Refused.size_faults, Refused.told_refusal}
+use Rattle.rules.specs.{Bytes.number_at, Records.model_of, Refused.refused, Refused.answered, Refused.fault, Refused.size_faults}
 use Rattle.rules.specs.{Trust.records_of, Trust.joined, Trust.id_of, Edits.spent_faults, Edits.raised_of, Edits.raised_at, Edits.written_at, Edits.slot_to_add}
 use Rattle.rules.specs.{Edits.slot_to_replace, Edits.slot_to_remove, declared.records.PolicySnapshot.PolicySnapshot, declared.refusal.Refusal.Refusal}
 use Rattle.rules.proofs.{Chunks.records_take, Chunks.records_drop, Chunks.joined-append, Chunks.joined-cons, Chunks.joined_records, Slots.slots_length}
 use Rattle.endian_writing.specs.Put.{patched}
-use Rattle.live_edits.specs.declared.placing.Slot.{Slot}
-use Rattle.live_edits.specs.declared.placing.Slot.TheVariants as slot
+use Rattle.rules.proofs.Faults.{exit_is}
+use Rattle.rules.specs.{Refused.Answer, Numbers.told_edited}
+use Rattle.std.specs.Prelude.{Result, Ok, Err, IsErrAnd}
 use Rattle.live_edits.specs.Placing.{told_slot, slot_to_take, Writable}
 
 -- WRITING A RECORD'S BYTES AT A SLOT sets that slot
@@ -33,41 +34,44 @@ put_sets bank r place whole one h =
       next,
     ))
 
--- ---- the answer of an edit by its slot
-
--- the slot is one of the bank's
-pub slot_inside : (s : Slot) (p : PolicySnapshot) (bank : List ℕ) {place : ℕ} → s ≡ slot.At place → Writable (told_slot s) p bank
+-- WHERE A SLOT CAN BE WRITTEN it is one of the bank's, and what stands there is the record
+pub slot_inside : (p : PolicySnapshot) (bank : List ℕ) (place : ℕ) → Writable (answered place) p bank
     → (place < length bank / 47) × (length bank % 47 ≡ 0) × (spent_faults p ≡ [])
 unfolding Writable
-slot_inside s p bank e h = rw e at h
+slot_inside p bank place h = h
 
-module _ (s : Slot) (p : PolicySnapshot) (bank r : List ℕ) where
-  pub nothing_written : {why : Refusal} → s ≡ slot.Refused why → (refused (told_refusal why) ≡ raised_at (told_slot s) p) × (bank ≡ written_at (told_slot s) r bank)
-  nothing_written e = rw e (refl, refl)
+pub slot-written : (p : PolicySnapshot) (bank r : List ℕ) (place : ℕ) {exit : List ℕ} → Writable (answered place) p bank → length r ≡ 47
+    → exit ≡ patched bank (47 * place) r → exit ≡ written_at (answered place) r bank
+slot-written p bank r place can one bytes =
+    let h = slot_inside p bank place can in
+    bytes ∙ put_sets bank r place h.1 one h.0
 
-  pub slot-written : {place : ℕ} {q : PolicySnapshot} {exit : List ℕ} → s ≡ slot.At place → Writable (told_slot s) p bank → length r ≡ 47 → q ≡ raised_of p
-      → exit ≡ patched bank (47 * place) r
-      → (answered (record { policy = q; number = place }) ≡ raised_at (told_slot s) p) × (exit ≡ written_at (told_slot s) r bank)
-  slot-written {place} {q} {exit} e can one raised bytes =
-      let h = slot_inside s p bank e can in
-      rw e (rw raised refl, bytes ∙ put_sets bank r place h.1 one h.0)
+-- WHAT AN EDIT ANSWERS: the slot's refusal, and no byte written
+pub nothing_written : (e : Result (PolicySnapshot × ℕ) Refusal) (k : Refusal) (p : PolicySnapshot) (bank r : List ℕ) {slot : Answer ℕ}
+    → IsErrAnd e (λ x. x ≡ k) → told_slot (Err k) ≡ slot → (told_edited e ≡ raised_at slot p) × (bank ≡ written_at slot r bank)
+nothing_written e k p bank r is told = rw (exit_is e k is, ← told) (refl, refl)
+
+-- or what was written there
+pub edit_written : (x : PolicySnapshot × ℕ) (p : PolicySnapshot) (bank exit r : List ℕ) {place : ℕ} {slot : Answer ℕ} → x ≡ (raised_of p, place)
+    → exit ≡ written_at (answered place) r bank → told_slot (Ok place) ≡ slot → (told_edited (Ok x) ≡ raised_at slot p) × (exit ≡ written_at slot r bank)
+edit_written x p bank exit r is written told = rw (is, ← told) (refl, written)
 
 -- ---- a record offered
 
-pub its_id : (r : List ℕ) (id : ℕ) → id ≡ number_at r 0 4 → id ≡ id_of r
+its_id : (r : List ℕ) (id : ℕ) → id ≡ number_at r 0 4 → id ≡ id_of r
 unfolding id_of model_of
 its_id r id e = e
 
 module _ (p : PolicySnapshot) (bank r : List ℕ) where
   -- WITH ITS OWN LENGTH it goes by its id
   module _ (one : length r ≡ 47) where
-    pub own-add : slot_to_add p bank r ≡ slot_to_take p bank (id_of r)
+    pub own-add : (id : ℕ) → id ≡ number_at r 0 4 → slot_to_take p bank id ≡ slot_to_add p bank r
     unfolding slot_to_add slot_to_take size_faults
-    own-add = rw (eq-eqb (length r) 47 one)
+    own-add id e = rw (its_id r id e, eq-eqb (length r) 47 one)
 
-    pub own-replace : slot_to_replace p bank r ≡ slot_to_remove p bank (id_of r)
+    pub own-replace : (id : ℕ) → id ≡ number_at r 0 4 → slot_to_remove p bank id ≡ slot_to_replace p bank r
     unfolding slot_to_replace slot_to_remove size_faults
-    own-replace = rw (eq-eqb (length r) 47 one)
+    own-replace id e = rw (its_id r id e, eq-eqb (length r) 47 one)
 
   -- WITH ANOTHER it is 22
   module _ (other : length r ≡ 47 → ⊥) where

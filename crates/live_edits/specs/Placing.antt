@@ -1,25 +1,16 @@
--- The slot that an edit writes, by what its tests tell and what was found.
-use Rattle.std.specs.Prelude.{ℕ, ◌<◌, ◌%◌, ◌≡◌, List, [], length}
-use Rattle.std.proofs.Math.Option.{Option, none, some}
+-- The slot that an edit writes.
+use Rattle.std.specs.Prelude.{ℕ, ◌<◌, ◌%◌, ◌≡◌, List, [], length, Result}
 use Rattle.rules.specs.Limits.{record_bytes}
 use Rattle.rules.specs.Records.{records_in}
-use Rattle.rules.specs.Refused.{Fault, told_refusal, Answer, refused, answered, unless}
+use Rattle.rules.specs.Refused.{Answer, refused, answered, unless}
+use Rattle.rules.specs.Numbers.{told_number}
 use Rattle.rules.specs.Slots.{lowest_free}
 use Rattle.rules.specs.Edits.{spent_faults, add_faults, slot_or}
 use Rattle.rules.specs.declared.records.PolicySnapshot.{PolicySnapshot}
-use Rattle.live_edits.specs.declared.placing.Slot.{Slot}
-use Rattle.live_edits.specs.declared.placing.Slot.TheVariants as slot
+use Rattle.rules.specs.declared.refusal.Refusal.{Refusal}
 
-abbrev pub told_slot : Slot → Answer ℕ
-told_slot (slot.Refused r) = refused (told_refusal r)
-told_slot (slot.At place) = answered place
-
--- S6. What was found, unless something refuses before it; where nothing was, another fault
-unfoldable pub slot_unless : Option Fault → Answer (Option ℕ) → Fault → Answer ℕ
-slot_unless (some f) found other = refused f
-slot_unless none (refused f) other = refused f
-slot_unless none (answered none) other = refused other
-slot_unless none (answered (some place)) other = answered place
+abbrev pub told_slot : Result ℕ Refusal → Answer ℕ
+told_slot r = told_number r
 
 -- S5. Where a record with an id is added, once it has its own length
 unfoldable pub slot_to_take : PolicySnapshot → List ℕ → ℕ → Answer ℕ

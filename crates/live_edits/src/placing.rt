@@ -2,85 +2,67 @@
 ghost use Rattle.std.specs.Prelude.{◌≡◌, ◌≤◌, length};
 ghost use Rattle.rules.specs.Limits.{max_catalog_models};
 ghost use Rattle.rules.specs.Records.{records_in};
-ghost use Rattle.rules.specs.Refused.{told_refusal, told_outcome, first_fault};
-ghost use Rattle.rules.specs.Numbers.{told_found};
+ghost use Rattle.rules.specs.Refused.{told_outcome, first_fault};
 ghost use Rattle.rules.specs.Slots.{slot_with};
-ghost use Rattle.rules.specs.Edits.{offered_faults, there_faults, slot_to_remove};
-ghost use Rattle.live_edits.specs.Placing.{told_slot, slot_unless, slot_to_take};
+ghost use Rattle.rules.specs.Edits.{offered_faults, there_faults, edit_faults, add_faults, slot_to_remove};
+ghost use Rattle.live_edits.specs.Placing.{told_slot, slot_to_take};
 
 use crate::epoch::spent_outcome;
 use call_checks::listing::first_listed;
-use call_checks::refuse::first_refused;
 use live_slots::slots::{first_live, read_slots};
-use rules::{Found, Outcome, PolicySnapshot, Refusal};
-
-// Where an edit writes.
-#[derive(Clone, Copy)]
-pub enum Slot {
-    Refused(Refusal),
-    At(u16),
-}
+use rules::{PolicySnapshot, Refusal};
 
 // 16 where the id is 0.
-fn offered_outcome(id: u32) -> Outcome
+#[tactic(auto, unfolding(rules::specs::Edits::offered_faults, rules::specs::Refused::first_fault, rules::specs::Refused::told_outcome))]
+fn offered_outcome(id: u32) -> Result<(), Refusal>
     ensures { told_outcome result ≡ first_fault (offered_faults id) }
 {
     if id == 0 {
-        return Outcome::Refused(Refusal::ReservedModelId);
+        return Err(Refusal::ReservedModelId);
     }
-    Outcome::Answered
+    Ok(())
 }
 
 // 12 where a live record has the id.
-fn there_outcome(bank: &[u8], id: u32) -> Outcome
+fn there_outcome(bank: &[u8], id: u32) -> Result<(), Refusal>
     requires { records_in (length bank.now) ≤ max_catalog_models }
     ensures { told_outcome result ≡ first_fault (there_faults id (slot_with id bank.now)) }
 {
-    let there = first_live(bank, id);
-    if let Found::At(_) = there {
-        return Outcome::Refused(Refusal::DuplicateModelId { model_id: id });
+    match first_live(bank, id) {
+        Some(_) => Err(Refusal::DuplicateModelId { model_id: id }),
+        None => Ok(()),
     }
-    Outcome::Answered
 }
 
-// The slot that was found, unless something refuses; the last number where none was.
-fn slot_unless(outcome: Outcome, found: Found, otherwise: Refusal) -> Slot
-    ensures { told_slot result ≡ slot_unless (told_outcome outcome) (told_found found) (told_refusal otherwise) }
+// What refuses an edit with an id: 1, 2, 34, 16, 27.
+fn edit_outcome(policy: PolicySnapshot, bank: &[u8], id: u32) -> Result<(), Refusal>
+    ensures { told_outcome result ≡ first_fault (edit_faults policy bank.now id) }
 {
-    if let Outcome::Refused(refusal) = outcome {
-        return Slot::Refused(refusal);
-    }
-    match found {
-        Found::Refused(refusal) => Slot::Refused(refusal),
-        Found::At(place) => Slot::At(place),
-        Found::Nowhere => Slot::Refused(otherwise),
-    }
+    read_slots(bank)?;
+    offered_outcome(id)?;
+    spent_outcome(policy)
+}
+
+// What refuses one that adds: then 12.
+fn add_outcome(policy: PolicySnapshot, bank: &[u8], id: u32) -> Result<(), Refusal>
+    ensures { told_outcome result ≡ first_fault (add_faults policy bank.now id) }
+{
+    edit_outcome(policy, bank, id)?;
+    there_outcome(bank, id)
 }
 
 // Where a record with an id is added: the lowest free slot. Refused: 1, 2, 34, 16, 27, 12, 28.
-pub fn slot_to_add(policy: PolicySnapshot, bank: &[u8], id: u32) -> Slot
+pub fn slot_to_add(policy: PolicySnapshot, bank: &[u8], id: u32) -> Result<u16, Refusal>
     ensures { told_slot result ≡ slot_to_take policy bank.now id }
 {
-    let slots = read_slots(bank);
-    let read = slots.outcome;
-    if let Outcome::Refused(refusal) = read {
-        return Slot::Refused(refusal);
-    }
-    let spent = spent_outcome(policy);
-    let there = there_outcome(bank, id);
-    let outcome = first_refused(offered_outcome(id), first_refused(spent, there));
-    slot_unless(outcome, first_listed(bank, 0), Refusal::NoFreeSlot)
+    add_outcome(policy, bank, id)?;
+    first_listed(bank, 0).ok_or(Refusal::NoFreeSlot)
 }
 
 // Where the first live record with an id stands. Refused: 1, 2, 34, 16, 27, 5.
-pub fn slot_of_id(policy: PolicySnapshot, bank: &[u8], id: u32) -> Slot
+pub fn slot_of_id(policy: PolicySnapshot, bank: &[u8], id: u32) -> Result<u16, Refusal>
     ensures { told_slot result ≡ slot_to_remove policy bank.now id }
 {
-    let slots = read_slots(bank);
-    let read = slots.outcome;
-    if let Outcome::Refused(refusal) = read {
-        return Slot::Refused(refusal);
-    }
-    let outcome = first_refused(offered_outcome(id), spent_outcome(policy));
-    slot_unless(outcome, first_live(bank, id), Refusal::UnknownModel)
+    edit_outcome(policy, bank, id)?;
+    first_live(bank, id).ok_or(Refusal::UnknownModel)
 }

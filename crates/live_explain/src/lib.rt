@@ -7,7 +7,7 @@ ghost use Rattle.rules.specs.Live.{live_explain_of, live_explain_list};
 
 use explain::among::explain_among;
 use live_slots::slots::read_slots;
-use rules::{KernelInput, Outcome, PolicySnapshot, Prescribed};
+use rules::{KernelDecision, KernelInput, PolicySnapshot, Refusal};
 
 // `explain` over live records: the decision, and in the list what each of them is told, 72 bytes each in the order of the slots and without a
 // gap, the slot as place; a stopped request lists none. Refused: 1, 2, 34, then 4 where this answer needs more room; a refused call leaves
@@ -17,14 +17,10 @@ pub fn explain(
     bank: &[u8],
     input: KernelInput,
     list: &mut [u8],
-) -> Prescribed
+) -> Result<KernelDecision, Refusal>
     ensures answer { told_prescribed result ≡ live_explain_of policy input bank.now list.old }
     ensures bytes { list.new ≡ live_explain_list policy input bank.now list.old }
 {
-    let slots = read_slots(bank);
-    let outcome = slots.outcome;
-    if let Outcome::Refused(refusal) = outcome {
-        return Prescribed::Refused(refusal);
-    }
-    explain_among(policy, bank, input, slots.live, list)
+    let live = read_slots(bank)?;
+    explain_among(policy, bank, input, live, list)
 }

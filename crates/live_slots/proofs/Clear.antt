@@ -40,31 +40,31 @@ inside (suc k) w (suc n) (b ∷ bs) h = inside k w n bs (omega arith)
 
 module _ (bank : List ℕ) (place : ℕ) where
   -- Eight bytes of the slot, at an offset
-  part-read : (k n : ℕ) → k + 8 ≤ 47 → n ≡ number_at bank (47 * place + k) 8 → number (take 8 (drop k (record_part bank place))) ≡ n
-  part-read k n h its = ap number (inside k 8 47 (drop (47 * place) bank) h) ∙ rw (drop-drop k (47 * place) bank) (sym its)
+  part_read : (k n : ℕ) → k + 8 ≤ 47 → n ≡ number_at bank (47 * place + k) 8 → number (take 8 (drop k (record_part bank place))) ≡ n
+  part_read k n h its = ap number (inside k 8 47 (drop (47 * place) bank) h) ∙ rw (drop-drop k (47 * place) bank) (sym its)
 
   front_read : (n : ℕ) → n ≡ number_at bank (47 * place) 8 → number (take 8 (record_part bank place)) ≡ n
-  front_read n its = part-read 0 n (omega arith) (rw add-zero its)
+  front_read n its = part_read 0 n (omega arith) (rw add-zero its)
 
   -- ONE BYTE IS SET where eight of them say anything but 0
-  a-set : (k n : ℕ) → number (take 8 (drop k (record_part bank place))) ≡ n → (n ≡ 0 → ⊥) → false ≡ is_blank (record_part bank place)
-  a-set k n its other = go (is_blank (record_part bank place)) refl
+  a_set : (k n : ℕ) → number (take 8 (drop k (record_part bank place))) ≡ n → (n ≡ 0 → ⊥) → false ≡ is_blank (record_part bank place)
+  a_set k n its other = go (is_blank (record_part bank place)) refl
     where
       go : (t : Bool) → is_blank (record_part bank place) ≡ t → false ≡ t
       go false f = refl
       go true f = absurd (other (sym its ∙ part_blank k 8 (record_part bank place) f))
 
-  pub part-set : (k : ℕ) {n : ℕ} → k + 8 ≤ 47 → n ≡ number_at bank (47 * place + k) 8 → (n ≡ 0 → ⊥) → false ≡ is_blank (record_part bank place)
-  part-set k {n} h its other = a-set k n (part-read k n h its) other
+  pub part_set : (k : ℕ) {n : ℕ} → k + 8 ≤ 47 → n ≡ number_at bank (47 * place + k) 8 → (n ≡ 0 → ⊥) → false ≡ is_blank (record_part bank place)
+  part_set k {n} h its other = a_set k n (part_read k n h its) other
 
-  pub front-set : {n : ℕ} → n ≡ number_at bank (47 * place) 8 → (n ≡ 0 → ⊥) → false ≡ is_blank (record_part bank place)
-  front-set {n} its other = a-set 0 n (front_read n its) other
+  pub front_set : {n : ℕ} → n ≡ number_at bank (47 * place) 8 → (n ≡ 0 → ⊥) → false ≡ is_blank (record_part bank place)
+  front_set {n} its other = a_set 0 n (front_read n its) other
 
   -- NONE IS where the six say 0
-  pub parts-clear : {a b c d e f : ℕ} → 47 * place + 47 ≤ length bank → a ≡ number_at bank (47 * place) 8 → b ≡ number_at bank (47 * place + 8) 8
+  pub parts_clear : {a b c d e f : ℕ} → 47 * place + 47 ≤ length bank → a ≡ number_at bank (47 * place) 8 → b ≡ number_at bank (47 * place + 8) 8
       → c ≡ number_at bank (47 * place + 16) 8 → d ≡ number_at bank (47 * place + 24) 8 → e ≡ number_at bank (47 * place + 32) 8
       → f ≡ number_at bank (47 * place + 39) 8 → a ≡ 0 → b ≡ 0 → c ≡ 0 → d ≡ 0 → e ≡ 0 → f ≡ 0 → true ≡ is_blank (record_part bank place)
-  parts-clear {a} {b} {c} {d} {e} {f} room pa pb pc pd pe pf za zb zc zd ze zf =
+  parts_clear {a} {b} {c} {d} {e} {f} room pa pb pc pd pe pf za zb zc zd ze zf =
       sym (six_blank (record_part bank place) (length-take-le 47 (drop (47 * place) bank) (simp length-drop (omega arith))) (front_read a pa ∙ za)
-      (part-read 8 b (omega arith) pb ∙ zb) (part-read 16 c (omega arith) pc ∙ zc) (part-read 24 d (omega arith) pd ∙ zd)
-      (part-read 32 e (omega arith) pe ∙ ze) (part-read 39 f (omega arith) pf ∙ zf))
+      (part_read 8 b (omega arith) pb ∙ zb) (part_read 16 c (omega arith) pc ∙ zc) (part_read 24 d (omega arith) pd ∙ zd)
+      (part_read 32 e (omega arith) pe ∙ ze) (part_read 39 f (omega arith) pf ∙ zf))

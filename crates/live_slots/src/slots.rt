@@ -2,24 +2,17 @@
 ghost use Rattle.std.specs.Prelude.{◌≡◌, ◌+◌, ◌*◌, ◌≤◌, length};
 ghost use Rattle.rules.specs.Limits.{record_bytes, max_catalog_models};
 ghost use Rattle.rules.specs.Records.{records_in, record_part};
-ghost use Rattle.rules.specs.Refused.{told_outcome, first_fault, answered, unless};
-ghost use Rattle.rules.specs.Numbers.{told_found};
+ghost use Rattle.rules.specs.Refused.{refused, answered, unless};
+ghost use Rattle.rules.specs.Numbers.{told_number, told_option};
 ghost use Rattle.rules.specs.Listing.{first_listed, place_of};
 ghost use Rattle.rules.specs.Slots.{is_blank, live_faults, live_in};
 
 use call_checks::listing::first_listed;
 use call_checks::refuse::bank_outcome;
 use endian::u64_at;
+use rules::Refusal;
 use rules::limits::RECORD_BYTES;
-use rules::{Found, Outcome, Refusal};
 use sorting::insertion::id_at;
-
-// What refuses a bank, and how many of its records are live; 0 where it is refused.
-#[derive(Clone, Copy)]
-pub struct Slots {
-    pub outcome: Outcome,
-    pub live: u16,
-}
 
 // Whether every byte of the slot at a place is 0. Eight bytes are one load, so the last two loads share a byte. Each stands behind the test before
 // it: side by side, the compiler would test their bytes one by one.
@@ -51,47 +44,30 @@ fn is_clear(bank: &[u8], place: usize) -> bool
 
 // All slots, once: 1, 2, then 34 for a slot with id 0 that isn't clear; where none is refused, how many are live. The free ones are counted, so that a
 // live slot costs one test.
-pub fn read_slots(bank: &[u8]) -> Slots
-    ensures outcome { told_outcome result.outcome ≡ first_fault (live_faults bank.now) }
-    ensures live { result.live ≡ unless (live_faults bank.now) (λ f. 0) (length (live_in bank.now)) }
+pub fn read_slots(bank: &[u8]) -> Result<u16, Refusal>
+    ensures { told_number result ≡ unless (live_faults bank.now) refused (answered (length (live_in bank.now))) }
 {
-    let outcome = bank_outcome(bank.len());
-    if let Outcome::Refused(refusal) = outcome {
-        return Slots {
-            outcome: Outcome::Refused(refusal),
-            live: 0,
-        };
-    }
+    bank_outcome(bank.len())?;
     let n = bank.len() / RECORD_BYTES;
     let mut free = 0;
-    let mut i = 0;
-    while i < n {
-        let slot_id = id_at(bank, i);
-        if slot_id == 0 {
-            if is_clear(bank, i) {
-                free += 1;
-            } else {
-                return Slots {
-                    outcome: Outcome::Refused(Refusal::SlotNotClear),
-                    live: 0,
-                };
+    for place in 0..n {
+        if id_at(bank, place) == 0 {
+            if !is_clear(bank, place) {
+                return Err(Refusal::SlotNotClear);
             }
+            free += 1;
         }
-        i += 1;
     }
-    Slots {
-        outcome: Outcome::Answered,
-        live: (n - free) as u16,
-    }
+    Ok((n - free) as u16)
 }
 
 // The slot of the first live record with an id. Id 0 is no live record's.
-pub fn first_live(bank: &[u8], id: u32) -> Found
+pub fn first_live(bank: &[u8], id: u32) -> Option<u16>
     requires { records_in (length bank.now) ≤ max_catalog_models }
-    ensures { told_found result ≡ answered (place_of (first_listed id (live_in bank.now))) }
+    ensures { told_option result ≡ place_of (first_listed id (live_in bank.now)) }
 {
     if id == 0 {
-        return Found::Nowhere;
+        return None;
     }
     first_listed(bank, id)
 }

@@ -1,10 +1,10 @@
 -- An array that is filled field by field holds the packed numbers. Assumes nothing.
-use Rattle.rules.proofs.Kit.{ℕ, suc, zero, ◌+◌, ◌≤◌, ◌<◌, ◌/◌, ◌%◌, List, [], ◌∷◌, ◌++◌, append_assoc, append-nil, ◌≡◌, refl, ap, ◌∙◌, arith, zero-add, add-one}
-use Rattle.rules.proofs.Kit.{length, take, drop, get_or, length-take, drop_of_length-le, take-append-add, take-append-le, take_all, drop-cons}
+use Rattle.rules.proofs.Kit.{ℕ, suc, zero, ◌+◌, ◌≤◌, ◌/◌, ◌%◌, List, [], ◌∷◌, ◌++◌, append_assoc, append-nil, ◌≡◌, refl, ap, ◌∙◌, arith, zero-add}
+use Rattle.rules.proofs.Kit.{length, take, drop, length-take, drop_of_length-le, take-append-add, take-append-le, take_all}
 use Rattle.rules.specs.Bytes.{bytes_of, packed, filled}
 use Rattle.endian_writing.specs.Put.{patched}
 use Rattle.endian_writing.proofs.{Bytes.length_bytes, Stored.patch_join, Stored.length-patched}
-use Rattle.packing.specs.Beside.{beside, Tight}
+use Rattle.packing.specs.Tight.{Tight}
 use Rattle.packing.proofs.Layouts.{widths, length-packed, packed-append}
 
 -- ---- by one write for each field
@@ -69,42 +69,31 @@ word_leaves d at w v h room =
     rw long at (take-append-add (take at d) (bytes_of 8 v ++ drop (at + length (bytes_of 8 v)) d) w) in
     part ∙ rw (take-append-le w (bytes_of 8 v) _ (omega (arith, length_bytes 8 v)), take_bytes w 8 v h)
 
--- Bytes that are written up to a position; the widths and numbers that are left stand there next, and make these fields in all
-pub record Words (size at : ℕ) (ws vs : List ℕ) (fs : List (ℕ × ℕ)) (d : List ℕ) : Type 0 where
+-- Bytes that are written up to a position; the fields that are left stand there next, and make these fields in all
+pub record Words (size at : ℕ) (left fs : List (ℕ × ℕ)) (d : List ℕ) : Type 0 where
   pub long : length d ≡ size
-  pub tight : Tight at ws size
-  pub is : take at d ++ packed (beside ws vs) ≡ packed fs
+  pub tight : Tight at left size
+  pub is : take at d ++ packed left ≡ packed fs
 
--- NONE AT FIRST
-pub words_none : (d ws vs : List ℕ) → Tight 0 ws (length d) → Words (length d) 0 ws vs (beside ws vs) d
-words_none d ws vs tight = record { long = refl; tight = tight; is = refl }
-
-module _ {size at : ℕ} {fs : List (ℕ × ℕ)} {d : List ℕ} (ws vs : List ℕ) (i : ℕ) (w : Words size at (drop i ws) (drop i vs) fs d) where
+module _ {size at : ℕ} {fs : List (ℕ × ℕ)} {d : List ℕ} where
   -- THE NEXT has room, and one is written more
-  pub words-room : i < length ws → (get_or ws i 0 ≤ 8) × (at + 8 ≤ length d)
-  words-room h =
-      let t = rw (drop-cons ws i 0 h) at w.tight in
-      (t.0, omega (arith, w.long, t.1))
+  pub words-room : {f : ℕ × ℕ} {left : List (ℕ × ℕ)} → Words size at (f ∷ left) fs d → (f.0 ≤ 8) × (at + 8 ≤ length d)
+  words-room w = (w.tight.0, omega (arith, w.long, w.tight.1))
 
-  pub words_more : {e : List ℕ} → i < length ws → length vs ≡ length ws → e ≡ patched d at (bytes_of 8 (get_or vs i 0))
-      → Words size (at + get_or ws i 0) (drop (i + 1) ws) (drop (i + 1) vs) fs e
+  pub words_more : {e : List ℕ} {f : ℕ × ℕ} {left : List (ℕ × ℕ)} → Words size at (f ∷ left) fs d → e ≡ patched d at (bytes_of 8 f.1)
+      → Words size (at + f.0) left fs e
   unfolding packed
-  words_more {e} h same q =
-      let k : i < length vs = omega arith in
-      let t = rw (drop-cons ws i 0 h) at w.tight in
-      let all = rw (drop-cons ws i 0 h, drop-cons vs i 0 k) at w.is in
-      let room = words-room h in
+  words_more {e} {f} {left} w q =
+      let room = words-room w in
       record {
-        long = ap length q ∙ length-patched d at (bytes_of 8 (get_or vs i 0)) (omega (arith, length_bytes 8 (get_or vs i 0))) ∙ w.long;
-        tight = rw add-one t.2;
-        is = rw (q, word_leaves d at (get_or ws i 0) (get_or vs i 0) room.0 room.1, add-one, append_assoc) all;
+        long = ap length q ∙ length-patched d at (bytes_of 8 f.1) (omega (arith, length_bytes 8 f.1)) ∙ w.long;
+        tight = w.tight.2;
+        is = rw (q, word_leaves d at f.0 f.1 room.0 room.1, append_assoc) w.is;
       }
 
   -- ALL AT LAST
-  pub words-all : i ≡ length ws → d ≡ packed fs
+  pub words-all : Words size at [] fs d → d ≡ packed fs
   unfolding packed
-  words-all e =
-      let none : drop i ws ≡ [] = drop_of_length-le ws {i = i} (omega arith) in
-      let ends : at ≡ size = rw none at w.tight in
-      let all = rw none at w.is in
-      rw (take_all at d (omega (arith, w.long)), append-nil d) at all
+  words-all w =
+      let ends : at ≡ size = w.tight in
+      rw (take_all at d (omega (arith, w.long)), append-nil d) at w.is

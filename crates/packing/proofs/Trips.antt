@@ -121,7 +121,7 @@ input_back q fit sfit =
 -- WRITING WHAT WAS READ gives the same bytes, where there are as many as the fields have
 pub model_forth : (s : List ℕ) → Small s → length s ≡ record_bytes → model_bytes (model_of s) ≡ s
 unfolding model_of
-model_forth s small e = says_packed (model_fields (model_of s)) s 0 small (search refl) (omega arith)
+model_forth s small e = says_packed (model_fields (model_of s)) s 0 small (search) (omega arith)
 
 -- of a policy's numbers alone, whatever the rest of it
 module _ (r : Rounding) (allowance : ℕ) (s : List ℕ) where
@@ -135,7 +135,7 @@ module _ (r : Rounding) (allowance : ℕ) (s : List ℕ) where
 
   pub numbers-forth : Small s → length s ≡ policy_bytes → policy_number_bytes (policy_with r allowance s) ≡ s
   unfolding policy_with
-  numbers-forth small e = says_packed (policy_numbers (policy_with r allowance s)) s 0 small (search refl) (omega arith)
+  numbers-forth small e = says_packed (policy_numbers (policy_with r allowance s)) s 0 small (search) (omega arith)
 
 -- a number that says how a policy rounds is said again
 rounding_forth : (n : ℕ) → n ≤ 1 → n ≡ rounding_no (rounding_of n)
@@ -174,4 +174,4 @@ input_forth s small e =
     let long : length (take 8 (drop 20 s)) ≡ 8 = simp (length-take, length-drop) (omega arith) in
     let fits : number_at s 20 8 < 256 ^ 8 = rw long at (number_bound (take 8 (drop 20 s)) (small_take 8 (drop 20 s) (small_drop 20 s small))) in
     let back = sym (bits_signed (number_at s 20 8) fits) in
-    says_packed (input_fields (input_of s)) s 0 small (refl, (refl, (refl, (refl, (back, search refl))))) (omega arith)
+    says_packed (input_fields (input_of s)) s 0 small (refl, (refl, (refl, (refl, (back, search))))) (omega arith)

@@ -1,2 +1,2 @@
--- Numbers beside their widths, as code holds them.
-pub mod Beside
+-- Fields that code may pack.
+pub mod Tight

@@ -8,7 +8,6 @@ ghost use Rattle.std.specs.Prelude.{◌≡◌, length};
 ghost use Rattle.rules.specs.Limits.{policy_bytes};
 ghost use Rattle.rules.specs.Records.{model_bytes, input_bytes, policy_number_bytes, policy_in_bytes};
 
-use endian_signs::signed_bits;
 use endian_writing::put32;
 use rules::limits::{
     LONGEST_POLICY_BYTES, LongestPolicyBytes, ModelBytes, POLICY_BYTES, PolicyNumberBytes,
@@ -21,21 +20,20 @@ use unchecked::put_packed;
 pub fn model_bytes(m: KernelModel) -> ModelBytes
     ensures { result ≡ model_bytes m }
 {
-    let widths = [4, 2, 2, 2, 1, 4, 8, 8, 8, 8];
-    let values = [
-        m.model_id as u64,
-        m.provider_id as u64,
-        m.quality_bps as u64,
-        m.risk_ceiling_bps as u64,
-        m.enabled as u64,
-        m.p95_latency_ms as u64,
-        m.capabilities,
-        m.region_mask,
-        m.input_cost_microunits_per_million_tokens,
-        m.output_cost_microunits_per_million_tokens,
+    let fields = [
+        (4, m.model_id as u64),
+        (2, m.provider_id as u64),
+        (2, m.quality_bps as u64),
+        (2, m.risk_ceiling_bps as u64),
+        (1, m.enabled as u64),
+        (4, m.p95_latency_ms as u64),
+        (8, m.capabilities),
+        (8, m.region_mask),
+        (8, m.input_cost_microunits_per_million_tokens),
+        (8, m.output_cost_microunits_per_million_tokens),
     ];
     let mut a = [0u8; RECORD_BYTES];
-    put_packed(&mut a, &widths, &values);
+    put_packed(&mut a, &fields);
     a
 }
 
@@ -43,24 +41,23 @@ pub fn model_bytes(m: KernelModel) -> ModelBytes
 pub fn input_bytes(q: KernelInput) -> RequestBytes
     ensures { result ≡ input_bytes q }
 {
-    let widths = [8, 4, 4, 4, 8, 8, 2, 2, 2, 4, 8, 8, 8];
-    let values = [
-        q.request_sequence,
-        q.requested_model_id as u64,
-        q.input_tokens as u64,
-        q.output_tokens as u64,
-        signed_bits(q.business_value_microunits),
-        q.budget_limit_microunits,
-        q.risk_bps as u64,
-        q.confidence_bps as u64,
-        q.minimum_quality_bps as u64,
-        q.max_p95_latency_ms as u64,
-        q.required_capabilities,
-        q.allowed_provider_mask,
-        q.required_region_mask,
+    let fields = [
+        (8, q.request_sequence),
+        (4, q.requested_model_id as u64),
+        (4, q.input_tokens as u64),
+        (4, q.output_tokens as u64),
+        (8, q.business_value_microunits.cast_unsigned()),
+        (8, q.budget_limit_microunits),
+        (2, q.risk_bps as u64),
+        (2, q.confidence_bps as u64),
+        (2, q.minimum_quality_bps as u64),
+        (4, q.max_p95_latency_ms as u64),
+        (8, q.required_capabilities),
+        (8, q.allowed_provider_mask),
+        (8, q.required_region_mask),
     ];
     let mut a = [0u8; REQUEST_BYTES];
-    put_packed(&mut a, &widths, &values);
+    put_packed(&mut a, &fields);
     a
 }
 
@@ -69,16 +66,15 @@ fn put_numbers(out: &mut [u8], p: PolicySnapshot)
     requires { length out.old ≡ policy_bytes }
     ensures { out.new ≡ policy_number_bytes p }
 {
-    let widths = [8, 8, 2, 2, 2, 8];
-    let values = [
-        p.policy_epoch,
-        p.catalog_epoch,
-        p.hard_risk_limit_bps as u64,
-        p.minimum_confidence_bps as u64,
-        p.risk_penalty_multiplier_bps as u64,
-        p.latency_penalty_microunits_per_ms,
+    let fields = [
+        (8, p.policy_epoch),
+        (8, p.catalog_epoch),
+        (2, p.hard_risk_limit_bps as u64),
+        (2, p.minimum_confidence_bps as u64),
+        (2, p.risk_penalty_multiplier_bps as u64),
+        (8, p.latency_penalty_microunits_per_ms),
     ];
-    put_packed(out, &widths, &values);
+    put_packed(out, &fields);
 }
 
 // The bytes that say a policy's numbers, as in tag 1.
@@ -94,11 +90,9 @@ pub fn policy_number_bytes(p: PolicySnapshot) -> PolicyNumberBytes
 pub fn policy_bytes(p: PolicySnapshot) -> LongestPolicyBytes
     ensures { result ≡ policy_in_bytes p }
 {
-    let rounding = p.rounding;
-    let allowance = p.latency_allowance_ms;
     let mut a = [0u8; LONGEST_POLICY_BYTES];
     put_numbers(&mut a[0..POLICY_BYTES], p);
-    a[POLICY_BYTES] = rounding.number();
-    put32(&mut a, ROUNDED_POLICY_BYTES, allowance);
+    a[POLICY_BYTES] = p.rounding.number();
+    put32(&mut a, ROUNDED_POLICY_BYTES, p.latency_allowance_ms);
     a
 }

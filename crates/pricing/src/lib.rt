@@ -11,7 +11,8 @@ pub use settle::{pricing_of, share, share_small, widened};
 pub const PREFIX_LIMIT: u64 = 0x1_0000_0000_0000;
 
 // What a policy and a request settle once, for every model: the Rust's `Pricing`. `quality_prefix` is the value times the
-// confidence where the value is below 2^48, else the highest u64: it tells which of the two ways a quality term goes.
+// confidence where the value is below 2^48, else the highest u64: it tells which of the two ways a quality term goes. That
+// the parts belong together (`Settled`) is asked and no invariant of the type, since the rules' `pricing_of` makes one of numbers that no type bounds.
 #[derive(Clone, Copy)]
 pub struct Pricing {
     pub value: u64,

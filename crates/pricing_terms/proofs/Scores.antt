@@ -1,11 +1,11 @@
 -- Scores and the integers that they stand for. Assumes nothing.
-use Rattle.rules.proofs.Kit.{◌≡◌, sym, ap, ap₂, ◌∙◌, true, false, ℕ, suc, ◌+◌, ◌-◌, ◌^◌, ◌≤◌, ◌<◌, le_of_suc-le-suc, lt_of_not-le, dec_lt, arith}
+use Rattle.rules.proofs.Kit.{◌≡◌, sym, ap, ap₂, ◌∙◌, true, false, ℕ, suc, ◌+◌, ◌-◌, ◌%◌, ◌^◌, ◌≤◌, ◌<◌, le_of_suc-le-suc, lt_of_not-le, dec_lt, arith}
 use Rattle.rules.proofs.Kit.{lt-ltb, le-ltb, le-leb, lt-leb, ltb-true, ltb-false, ltb, leb, ℤ, pos, negsuc, neg_ℤ, nat_abs, sub_ℕ, ◌+ℤ◌, ◌-ℤ◌, +ℤ_assoc}
 use Rattle.rules.proofs.Kit.{neg_ℤ-+ℤ, lt_z, le_z, w64, to_z}
 use mir.Facts.{to_z_pos, to_z-neg}
 use Rattle.limbs.proofs.Limbs.{decides}
 use Rattle.rules.proofs.Integers.{sub_is, sub_above, sub-below}
-use Rattle.rules.specs.{Limits.max_u64, Limits.max_i64, Utility.held, Wide.val, Wide.val_z, Wide.signed, declared.wide.SignedWide.SignedWide}
+use Rattle.rules.specs.{Utility.held, Wide.val, Wide.val_z, Wide.signed, declared.wide.SignedWide.SignedWide}
 use Rattle.pricing_terms.specs.Score.{unscored, scored, score_of}
 
 le_of : {a b : ℕ} → ¬ (a < b) → b ≤ a
@@ -94,10 +94,14 @@ size_is s a b n e h = ap nat_abs (ap (λ t. signed t (val s.size)) (sym n) ∙ e
 
 -- ---- the machine's signed numbers
 
-pub signed_below : (s : ℕ) → s < 2 ^ 63 → to_z w64 (max_u64 - (max_i64 - s)) ≡ unscored s
-signed_below s h =
-    ap (to_z w64) {x = max_u64 - (max_i64 - s)} {y = 2 ^ 64 - suc (2 ^ 63 - suc s)} (omega arith) ∙ to_z-neg w64 (2 ^ 63 - suc s) (omega arith)
-    ∙ sym (unscored-below s h)
+wrapped : (s : ℕ) → s < 2 ^ 64 → Dec (s < 2 ^ 63) → to_z w64 ((s + 2 ^ 63) % 2 ^ 64) ≡ unscored s
+wrapped s h (yes k) =
+    ap (to_z w64) {x = (s + 2 ^ 63) % 2 ^ 64} {y = 2 ^ 64 - suc (2 ^ 63 - suc s)} (omega arith) ∙ to_z-neg w64 (2 ^ 63 - suc s) (omega arith)
+    ∙ sym (unscored-below s k)
+wrapped s h (no n) =
+    let k = le_of n in
+    ap (to_z w64) {x = (s + 2 ^ 63) % 2 ^ 64} {y = s - 2 ^ 63} (omega arith) ∙ to_z_pos w64 (omega arith) ∙ sym (unscored_above s k)
 
-pub signed_above : (s : ℕ) → 2 ^ 63 ≤ s → s < 2 ^ 64 → to_z w64 (s - 2 ^ 63) ≡ unscored s
-signed_above s h k = to_z_pos w64 (omega arith) ∙ sym (unscored_above s h)
+-- a score less that of 0, which wraps below, is the utility's 64 bits
+pub score_bits : (s : ℕ) → s < 2 ^ 64 → to_z w64 ((s + 2 ^ 63) % 2 ^ 64) ≡ unscored s
+score_bits s h = wrapped s h (dec_lt s (2 ^ 63))

@@ -14,37 +14,8 @@ use rules::{KernelModel, UtilityTerms, Wide};
 // The score of a utility of 0: 2^63.
 pub const ZERO_SCORE: u64 = 0x8000_0000_0000_0000;
 
-const MAX_I64: u64 = 0x7fff_ffff_ffff_ffff;
-
-// a less b, or 0 where b is the higher.
-fn less(a: u64, b: u64) -> u64
-    ensures { result ≡ a - b }
-{
-    if a < b {
-        return 0;
-    }
-    a - b
-}
-
-// The milliseconds above an allowance, none where there are none above it.
-fn charged(ms: u32, allowance: u32) -> u32
-    ensures { result ≡ ms - allowance }
-{
-    if ms < allowance {
-        return 0;
-    }
-    ms - allowance
-}
-
-// The latency term by 64 bits, of the milliseconds that are charged.
-fn late_small(ms: u32, penalty: u64) -> u64
-    requires { penalty < 2 ^ 32 }
-    ensures { result ≡ ms * penalty }
-{
-    (ms as u64) * penalty
-}
-
 // Four terms and their score by 64 bits.
+#[tactic(auto, unfolding(crate::specs::Terms::scored_terms, crate::specs::Score::score_of))]
 fn terms_small(quality: u64, risk: Wide, cost: u64, latency: u64) -> ScoredTerms
     requires { (quality < 2 ^ 62) × (val risk ≤ 2 ^ 63) }
     ensures { result ≡ scored_terms quality risk cost latency }
@@ -55,7 +26,7 @@ fn terms_small(quality: u64, risk: Wide, cost: u64, latency: u64) -> ScoredTerms
         risk_penalty: risk,
         cost_microunits: cost,
         latency_penalty: widened(latency),
-        score: less(less(up, latency), cost),
+        score: up.saturating_sub(latency).saturating_sub(cost),
     }
 }
 
@@ -67,9 +38,10 @@ fn score_wide(gain: Wide, loss: Wide) -> u64
     let up = limbs::add(gain, limbs::of_one(ZERO_SCORE));
     let left = limbs::difference(up, loss);
     if left.negative {
-        return 0;
+        0
+    } else {
+        limbs::held(left.size)
     }
-    limbs::held(left.size)
 }
 
 // The terms of a model's quality, cost and latency by two limbs. The numbers come one by one, the risk term as its limbs, so that the
@@ -88,7 +60,7 @@ fn terms_exact(
     ensures { result ≡ scored_terms (share_of value confidence bps) (record { hi = hi; lo = lo }) cost (ms * penalty) }
 {
     let quality = share(value, confidence, bps);
-    let latency = limbs_products::product(ms as u64, penalty);
+    let latency = limbs_products::product(u64::from(ms), penalty);
     let risk = Wide { hi, lo };
     let loss = limbs::add(risk, limbs::add(limbs::of_one(cost), latency));
     ScoredTerms {
@@ -101,6 +73,7 @@ fn terms_exact(
 }
 
 // The same under a pricing, for callers outside a scan's loop.
+#[tactic(auto, unfolding(crate::specs::Terms::terms_with))]
 pub fn terms_wide(pr: Pricing, model: KernelModel, cost: u64) -> ScoredTerms
     requires { Settled pr }
     ensures { result ≡ terms_with pr model cost }
@@ -113,7 +86,7 @@ pub fn terms_wide(pr: Pricing, model: KernelModel, cost: u64) -> ScoredTerms
         risk.hi,
         risk.lo,
         cost,
-        charged(model.p95_latency_ms, pr.latency_allowance_ms),
+        model.p95_latency_ms.saturating_sub(pr.latency_allowance_ms),
         pr.latency_pen_per_ms,
     )
 }
@@ -126,16 +99,11 @@ pub fn terms(pr: Pricing, model: KernelModel, cost: u64) -> ScoredTerms
 {
     let prefix = pr.quality_prefix;
     let penalty = pr.latency_pen_per_ms;
-    let ms = charged(model.p95_latency_ms, pr.latency_allowance_ms);
+    let ms = model.p95_latency_ms.saturating_sub(pr.latency_allowance_ms);
     let risk = pr.risk_penalty;
-    if prefix < PREFIX_LIMIT {
-        if penalty < HALF {
-            if limbs::held(risk) <= ZERO_SCORE {
-                let quality = share_small(prefix, model.quality_bps);
-                let latency = late_small(ms, penalty);
-                return terms_small(quality, risk, cost, latency);
-            }
-        }
+    if prefix < PREFIX_LIMIT && penalty < HALF && limbs::held(risk) <= ZERO_SCORE {
+        let quality = share_small(prefix, model.quality_bps);
+        return terms_small(quality, risk, cost, u64::from(ms) * penalty);
     }
     terms_exact(
         pr.value,
@@ -149,28 +117,23 @@ pub fn terms(pr: Pricing, model: KernelModel, cost: u64) -> ScoredTerms
     )
 }
 
-// The utility that a score stands for. Below zero it is a complement, since the size of the lowest i64 is no i64.
+// The utility that a score stands for: the difference wraps below zero.
 pub fn utility_of_score(score: u64) -> i64
     ensures { result ≡ unscored score }
 {
-    if score < ZERO_SCORE {
-        return !((MAX_I64 - score) as i64);
-    }
-    (score - ZERO_SCORE) as i64
+    score.wrapping_sub(ZERO_SCORE).cast_signed()
 }
 
 // The terms with the utility itself.
+#[tactic(auto, unfolding(crate::specs::Terms::utility_terms_of))]
 pub fn utility_terms(t: ScoredTerms) -> UtilityTerms
     ensures { result ≡ utility_terms_of t }
 {
-    let quality = t.quality_adjusted;
-    let risk = t.risk_penalty;
-    let latency = t.latency_penalty;
     UtilityTerms {
-        quality_adjusted: quality,
-        risk_penalty: risk,
+        quality_adjusted: t.quality_adjusted,
+        risk_penalty: t.risk_penalty,
         cost_microunits: t.cost_microunits,
-        latency_penalty: latency,
+        latency_penalty: t.latency_penalty,
         utility: utility_of_score(t.score),
     }
 }

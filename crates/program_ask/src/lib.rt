@@ -1,11 +1,11 @@
 // The question from the desk: what would make a model win, in the unit program's lines, as a call on slices, `ask_text`, which asks nothing of
-// its caller. `ask_outcome` is for other crates.
+// its caller. `asked` is for other crates.
 #![tactic(auto)]
 
 ghost use Rattle.std.specs.Prelude.{◌≡◌, ◌≤◌, length};
-ghost use Rattle.rules.specs.Refused.{first_fault, told_outcome};
+ghost use Rattle.rules.specs.Refused.{answered, first_fault, refused, told_answer, told_outcome, unless};
 ghost use Rattle.rules.specs.Numbers.{told_written, told_boundaries};
-ghost use Rattle.rules.specs.Printed.{ask_faults, ask_report, ask_text, print_of, print_buffer};
+ghost use Rattle.rules.specs.Printed.{ask_faults, asked_of, ask_report, ask_text, print_of, print_buffer};
 ghost use Rattle.program_deliver.specs.Sizes.{ask_bytes};
 ghost use Rattle.std.proofs.Math.Option.{some};
 ghost use Rattle.splice.specs.Placed.{placed};
@@ -17,23 +17,26 @@ use program_deliver::sizes::ASK_BYTES;
 use program_input::{bank_in, policy_in, program_outcome, request_in};
 use program_lever_lines::put_lever_lines;
 use program_lines::{put_decision, put_refused};
-use rules::{Boundaries, Found, Outcome, Refusal, Written};
+use rules::{Boundaries, Refusal};
 use text::put_line;
 
 // Whether the question is answered, and if not, why: 20 to 23 and 25, 19, validation, 3, and 5 last.
-pub fn ask_outcome(input: &[u8], id: u32) -> Outcome
+fn ask_outcome(input: &[u8], id: u32) -> Result<(), Refusal>
     ensures { told_outcome result ≡ first_fault (ask_faults id input.now) }
 {
-    let outcome = program_outcome(input);
-    if let Outcome::Refused(refusal) = outcome {
-        return Outcome::Refused(refusal);
-    }
+    program_outcome(input)?;
     match first_listed(bank_in(input), id) {
-        Found::At(_) => Outcome::Answered,
-        Found::Nowhere => Outcome::Refused(Refusal::UnknownModel),
-        // No such bank comes here.
-        Found::Refused(refusal) => Outcome::Refused(refusal),
+        Some(_) => Ok(()),
+        None => Err(Refusal::UnknownModel),
     }
+}
+
+// What would make the model win.
+pub fn asked(input: &[u8], id: u32) -> Result<Boundaries, Refusal>
+    ensures { told_answer told_boundaries result ≡ unless (ask_faults id input.now) refused (answered (asked_of id input.now)) }
+{
+    ask_outcome(input, id)?;
+    what_would_win(policy_in(input), bank_in(input), request_in(input), id)
 }
 
 // The decision, the levers that win, the passes.
@@ -41,11 +44,9 @@ fn put_asked(out: &mut [u8], asked: Boundaries) -> usize
     requires { ask_bytes ≤ length out.old }
     ensures { some (result, out.new) ≡ placed out.old 0 (ask_report (told_boundaries asked).decision (told_boundaries asked)) }
 {
-    let levers = asked.levers;
-    let passes = [levers.passes];
     let next = put_decision(out, 0, asked.decision);
-    let end = put_lever_lines(out, next, levers);
-    put_line(out, end, b"passes", &passes)
+    let end = put_lever_lines(out, next, asked.levers);
+    put_line(out, end, b"passes", &[asked.levers.passes])
 }
 
 // The whole answer.
@@ -53,19 +54,15 @@ fn put_ask(out: &mut [u8], input: &[u8], id: u32) -> usize
     requires { ask_bytes ≤ length out.old }
     ensures { some (result, out.new) ≡ placed out.old 0 (ask_text id input.now) }
 {
-    let outcome = ask_outcome(input, id);
-    if let Outcome::Refused(refusal) = outcome {
-        return put_refused(out, 0, refusal);
+    match asked(input, id) {
+        Ok(asked) => put_asked(out, asked),
+        Err(refusal) => put_refused(out, 0, refusal),
     }
-    let policy = policy_in(input);
-    let request = request_in(input);
-    let asked = what_would_win(policy, bank_in(input), request, id);
-    put_asked(out, asked)
 }
 
 // What `ask ID` prints for an input, at the start of a buffer, whose other bytes stay. Bad input, or an id that isn't listed, gets the line
 // of its refusal. Refused, with nothing written: 4.
-pub fn ask_text(input: &[u8], id: u32, out: &mut [u8]) -> Written
+pub fn ask_text(input: &[u8], id: u32, out: &mut [u8]) -> Result<usize, Refusal>
     ensures { (told_written result ≡ print_of (ask_text id input.now) (length out.old)) × (out.new ≡ print_buffer (ask_text id input.now) out.old) × (length (ask_text id input.now) ≤ ask_bytes) }
 {
     let mut space = [0u8; ASK_BYTES];

@@ -1,16 +1,17 @@
 -- ANY TWO PERMITTED ANSWERS ARE EQUAL, and any two permitted buffers, for any text that is handed over. Assumes nothing.
 use Rattle.rules.proofs.Kit.{ℕ, ◌+◌, ◌≤◌, List, ◌++◌, ◌≡◌, refl, sym, ap, ◌∙◌, arith, length, length-append, take, drop, take_at}
 use Rattle.rules.specs.{Bytes.filled, Refused.Answer, Refused.room_faults, Refused.answered, Refused.unless, Refused.refused, Numbers.told_written}
-use Rattle.rules.specs.{Printed.print_of, Printed.print_buffer, declared.forms.Written.Written}
+use Rattle.rules.specs.{Printed.print_of, Printed.print_buffer, declared.refusal.Refusal.Refusal}
+use Rattle.std.specs.Prelude.{Result}
 use Rattle.rules.proofs.{ToldStored.one_written, Faults.room_enough}
 use Rattle.program_deliver.specs.Ends.{end_of}
 
 -- An answer with a buffer at exit, as a promise permits them for a text, and that any two such are equal
-abbrev pub Permitted : List ℕ → List ℕ → Written → List ℕ → Type 0
+abbrev pub Permitted : List ℕ → List ℕ → Result ℕ Refusal → List ℕ → Type 0
 Permitted t out r d = (told_written r ≡ print_of t (length out)) × (d ≡ print_buffer t out)
 
 abbrev pub Same : List ℕ → List ℕ → Type 0
-Same t out = (r s : Written) (d e : List ℕ) → Permitted t out r d → Permitted t out s e → (r ≡ s) × (d ≡ e)
+Same t out = (r s : Result ℕ Refusal) (d e : List ℕ) → Permitted t out r d → Permitted t out s e → (r ≡ s) × (d ≡ e)
 
 pub one_print : (t out : List ℕ) → Same t out
 one_print t out r s d e p q = (one_written (print_of t (length out)) r s p.0 q.0, p.1 ∙ sym q.1)

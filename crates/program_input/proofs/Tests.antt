@@ -1,13 +1,13 @@
 -- The parts of an input that passes, and which number refuses one. Assumes nothing.
-use Rattle.rules.proofs.Kit.{lt-ltb, le-ltb, eq-eqb, ℕ, ◌/◌, ◌%◌, ◌≤◌, ◌<◌, ◌≡◌, refl, ap, ◌∙◌, List, [], ◌∷◌, Option, length, arith}
-use Rattle.rules.specs.{Limits.record_bytes, Limits.max_program_models, Limits.max_catalog_models, Records.records_in, Records.listed_of, Refused.Fault}
-use Rattle.rules.specs.{Refused.bank_faults, Refused.length_faults, Refused.or_else, Refused.first_fault, Refused.told_outcome, Decide.request_faults}
+use Rattle.rules.proofs.Kit.{lt-ltb, le-ltb, eq-eqb, ℕ, ◌/◌, ◌%◌, ◌≤◌, ◌<◌, ◌≡◌, refl, ap, List, [], ◌∷◌, ◌++◌, length, arith}
+use Rattle.rules.specs.{Limits.record_bytes, Limits.max_program_models, Limits.max_catalog_models, Records.records_in, Records.listed_of}
+use Rattle.rules.specs.{Refused.bank_faults, Refused.length_faults, Refused.first_fault, Refused.told_outcome, Decide.request_faults}
 use Rattle.rules.specs.{Validate.catalog_faults, Stored.body_length, Stored.after_of, Stored.after_due, Stored.after_rounding}
 use Rattle.rules.specs.{Stored.form_faults, Stored.stored_policy, Stored.stored_bank, Printed.program_tags}
-use Rattle.rules.specs.{Printed.program_models, Printed.program_request, Printed.program_faults, declared.records.KernelInput.KernelInput}
-use Rattle.rules.specs.{declared.records.PolicySnapshot.PolicySnapshot, declared.refusal.Refusal.Refusal, declared.refusal.Outcome.Outcome}
-use Rattle.rules.specs.{declared.refusal.Outcome.TheVariants.Answered, declared.refusal.Outcome.TheVariants.Refused}
-use Rattle.rules.proofs.Faults.{none_first, append_refused, joined_told}
+use Rattle.rules.specs.{Printed.program_models, Printed.program_request, Printed.program_faults}
+use Rattle.rules.specs.{declared.records.PolicySnapshot.PolicySnapshot, declared.refusal.Refusal.Refusal}
+use Rattle.std.specs.Prelude.{Result, Ok, Err, ⊤, IsErrAnd}
+use Rattle.rules.proofs.Faults.{none_first, append_refused, exit_outcome}
 use Rattle.stored_fields.proofs.Lengths.{fits_bank}
 use Rattle.stored_layout.proofs.{Passing.Passed, Passing.body_length_lem, Forms.form-passed, Openings.Opened, Openings.opened}
 use Rattle.program_input.specs.Formed.{Formed, formed_faults}
@@ -42,12 +42,12 @@ bank_few input e =
 
 module _ {bank : List ℕ} (input : List ℕ) (formed : Formed input) (is : bank ≡ stored_bank input) where
   -- 19 AFTER THE FORM: more models than the programs take
-  pub many-refused : max_program_models < length bank / record_bytes → told_outcome (Refused refusal.TooManyForProgram) ≡ first_fault (formed_faults input)
+  pub many-refused : max_program_models < length bank / record_bytes → told_outcome (Err refusal.TooManyForProgram) ≡ first_fault (formed_faults input)
   unfolding formed_faults told_outcome first_fault
   many-refused h =
       rw (formed, lt-ltb max_program_models (records_in (length (stored_bank input))) (omega (arith, h, ap length is)))
 
-  pub few-pass : length bank / record_bytes ≤ max_program_models → told_outcome Answered ≡ first_fault (formed_faults input)
+  pub few-pass : length bank / record_bytes ≤ max_program_models → told_outcome (Ok tt) ≡ first_fault (formed_faults input)
   unfolding formed_faults told_outcome first_fault
   few-pass h =
       rw (formed, le-ltb max_program_models (records_in (length (stored_bank input))) (omega (arith, h, ap length is)))
@@ -62,18 +62,14 @@ unfolding program_faults formed_faults
 program_formed input e = formed_whole input (none_first (formed_faults input) _ (none_first _ _ e))
 
 -- THE FORM AND 19 COME FIRST
-pub formed_refused : {o : Outcome} {r : Refusal} (input : List ℕ) → o ≡ Refused r → told_outcome o ≡ first_fault (formed_faults input)
-    → told_outcome (Refused r) ≡ first_fault (program_faults input)
+pub formed_refused : (o : Result ⊤ Refusal) (r : Refusal) (input : List ℕ) → IsErrAnd o (λ e. e ≡ r) → told_outcome (Err r) ≡ first_fault (formed_faults input)
+    → told_outcome o ≡ first_fault (program_faults input)
 unfolding program_faults formed_faults
-formed_refused input e h = append_refused _ _ refl (append_refused (formed_faults input) (catalog_faults (stored_policy input) (program_models input)) e h)
+formed_refused o r input h told =
+    exit_outcome o r _ _ h (append_refused (formed_faults input) (catalog_faults (stored_policy input) (program_models input)) refl told)
 
 -- THEN VALIDATION, THEN THE REQUEST
-pub program_told : {r v c : Option Fault} {p : PolicySnapshot} {q : KernelInput} {bank : List ℕ} (input : List ℕ) → formed_faults input ≡ []
-    → p ≡ stored_policy input → bank ≡ stored_bank input → q ≡ program_request input
-    → v ≡ first_fault (catalog_faults p (listed_of bank)) → c ≡ first_fault (request_faults q 0) → r ≡ or_else v c → r ≡ first_fault (program_faults input)
+pub program_left : {p : PolicySnapshot} {bank : List ℕ} (input : List ℕ) → formed_faults input ≡ [] → p ≡ stored_policy input → bank ≡ stored_bank input
+    → program_faults input ≡ catalog_faults p (listed_of bank) ++ request_faults (program_request input) 0
 unfolding program_faults formed_faults
-program_told input opens policy models request v c e =
-    rw opens
-    (joined_told _ _ e
-    (v ∙ (λ i. first_fault (catalog_faults (policy i) (listed_of (models i)))))
-    (c ∙ ap (λ (x : KernelInput). first_fault (request_faults x 0)) request))
+program_left input opens policy models = rw (opens, policy, models)

@@ -9,10 +9,10 @@ ghost use Rattle.rules.specs.Printed.{program_request, program_faults};
 ghost use Rattle.program_input.specs.Formed.{Formed, formed_faults};
 
 use bank::unchecked::input_of;
-use call_checks::refuse::{first_refused, input_outcome};
+use call_checks::refuse::input_outcome;
 use catalogue_validation::catalog_outcome;
 use rules::limits::{MAX_PROGRAM_MODELS, RECORD_BYTES};
-use rules::{KernelInput, Outcome, PolicySnapshot, Refusal};
+use rules::{KernelInput, PolicySnapshot, Refusal};
 use stored_fields::{ALLOWANCE_TAG, BANK_TAG, POLICY_TAG, REQUEST_TAG, ROUNDING_TAG};
 use stored_layout::{after_front, after_opening, front_body, lay_out};
 
@@ -41,7 +41,7 @@ pub fn request_in(input: &[u8]) -> KernelInput
 }
 
 // 20 to 23 and 25 over all fields, then 19.
-fn formed_outcome(input: &[u8]) -> Outcome
+fn formed_outcome(input: &[u8]) -> Result<(), Refusal>
     ensures { told_outcome result ≡ first_fault (formed_faults input.now) }
 {
     let tags = [
@@ -51,26 +51,18 @@ fn formed_outcome(input: &[u8]) -> Outcome
         ALLOWANCE_TAG,
         REQUEST_TAG,
     ];
-    let outcome = lay_out(input, &tags);
-    if let Outcome::Refused(refusal) = outcome {
-        return Outcome::Refused(refusal);
+    lay_out(input, &tags)?;
+    if MAX_PROGRAM_MODELS < bank_in(input).len() / RECORD_BYTES {
+        return Err(Refusal::TooManyForProgram);
     }
-    let bank = bank_in(input);
-    if MAX_PROGRAM_MODELS < bank.len() / RECORD_BYTES {
-        return Outcome::Refused(Refusal::TooManyForProgram);
-    }
-    Outcome::Answered
+    Ok(())
 }
 
 // Whether the programs answer an input, and if not, why: 20 to 23 and 25, 19, validation, 3.
-pub fn program_outcome(input: &[u8]) -> Outcome
+pub fn program_outcome(input: &[u8]) -> Result<(), Refusal>
     ensures { told_outcome result ≡ first_fault (program_faults input.now) }
 {
-    let formed = formed_outcome(input);
-    if let Outcome::Refused(refusal) = formed {
-        return Outcome::Refused(refusal);
-    }
-    let valid = catalog_outcome(policy_in(input), bank_in(input));
-    let clear = input_outcome(request_in(input), 0);
-    first_refused(valid, clear)
+    formed_outcome(input)?;
+    catalog_outcome(policy_in(input), bank_in(input))?;
+    input_outcome(request_in(input), 0)
 }

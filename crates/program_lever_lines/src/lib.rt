@@ -8,21 +8,19 @@ ghost use Rattle.std.proofs.Math.Option.{some};
 ghost use Rattle.splice.specs.Placed.{placed};
 ghost use Rattle.program_lever_lines.specs.Pieces.{cost_word};
 
-use rules::{BoundaryCost, Levers, Requirement};
+use rules::{Levers, Requirement};
 use text::{put_byte, put_text, put_word, put_words};
 
-// The rooms for levers in an answer.
-const LEVERS: usize = 4;
-
 // A space, and the cost at a boundary or a dash.
-fn put_cost(out: &mut [u8], at: usize, cost: BoundaryCost) -> usize
+#[tactic(auto, unfolding(rules::specs::Printed::cost_text, rules::specs::Text::text, rules::specs::Text::spaced))]
+fn put_cost(out: &mut [u8], at: usize, cost: Option<u64>) -> usize
     requires { at + 21 ≤ length out.old }
     ensures out_after { some (result, out.new) ≡ placed out.old at (cost_word (told_cost cost)) }
     ensures upper_bound { result ≤ at + 21 }
 {
     match cost {
-        BoundaryCost::Unpriced => put_text(out, at, b" -"),
-        BoundaryCost::Microunits(c) => put_word(out, at, c),
+        None => put_text(out, at, b" -"),
+        Some(microunits) => put_word(out, at, microunits),
     }
 }
 
@@ -32,11 +30,10 @@ pub fn put_lever_line(out: &mut [u8], at: usize, lever: Requirement) -> usize
     ensures out_after { some (result, out.new) ≡ placed out.old at (lever_line (told_entry lever)) }
     ensures upper_bound { result ≤ at + 90 }
 {
-    let cost = lever.cost_at_boundary_microunits;
     let numbers = [lever.lever as u64, lever.current, lever.boundary];
     let named = put_text(out, at, b"lever");
     let next = put_words(out, named, &numbers);
-    let end = put_cost(out, next, cost);
+    let end = put_cost(out, next, lever.cost_at_boundary_microunits);
     put_byte(out, end, b'\n')
 }
 
@@ -46,15 +43,10 @@ pub fn put_lever_lines(out: &mut [u8], at: usize, levers: Levers) -> usize
     ensures out_after { some (result, out.new) ≡ placed out.old at (lever_lines (take levers.count (map told_entry levers.levers))) }
     ensures upper_bound { result ≤ at + 360 }
 {
-    let mut i = 0;
+    let count = levers.count.min(levers.levers.len());
     let mut next = at;
-    while i < LEVERS {
-        if levers.count <= i {
-            return next;
-        }
-        let lever = levers.levers[i];
+    for &lever in &levers.levers[..count] {
         next = put_lever_line(out, next, lever);
-        i += 1;
     }
     next
 }

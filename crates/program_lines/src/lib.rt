@@ -19,12 +19,10 @@ fn put_start(out: &mut [u8], at: usize, decision: KernelDecision) -> usize
     ensures out_after { some (result, out.new) ≡ placed out.old at (decision_start (told_decision decision)) }
     ensures upper_bound { result ≤ at + 155 }
 {
-    let action = decision.action;
-    let reason = decision.reason;
     let numbers = [
         decision.request_sequence,
-        action.number() as u64,
-        reason.number() as u64,
+        decision.action.number() as u64,
+        decision.reason.number() as u64,
         decision.selected_model_id as u64,
         decision.selected_model_index as u64,
         decision.estimated_cost_microunits,
@@ -47,13 +45,14 @@ pub fn put_decision(out: &mut [u8], at: usize, decision: KernelDecision) -> usiz
         decision.catalog_epoch,
     ];
     let start = put_start(out, at, decision);
-    let other = put_word(out, start, decision.counterfactual_model_id as u64);
+    let other = put_word(out, start, u64::from(decision.counterfactual_model_id));
     let worth = put_signed_word(out, other, decision.counterfactual_utility_microunits);
     let end = put_words(out, worth, &numbers);
     put_byte(out, end, b'\n')
 }
 
 // The line of the nine counts.
+#[tactic(auto, unfolding(rules::specs::Printed::counts_line, rules::specs::Text::text))]
 pub fn put_counts(out: &mut [u8], at: usize, counts: RejectionHistogram) -> usize
     requires { at + 198 ≤ length out.old }
     ensures out_after { some (result, out.new) ≡ placed out.old at (counts_line counts) }
@@ -74,11 +73,11 @@ pub fn put_counts(out: &mut [u8], at: usize, counts: RejectionHistogram) -> usiz
 }
 
 // The line of a refusal.
+#[tactic(auto, unfolding(rules::specs::Printed::refused_line, rules::specs::Text::text))]
 pub fn put_refused(out: &mut [u8], at: usize, refusal: Refusal) -> usize
     requires { at + 29 ≤ length out.old }
     ensures out_after { some (result, out.new) ≡ placed out.old at (refused_line (told_refusal refusal)) }
     ensures upper_bound { result ≤ at + 29 }
 {
-    let numbers = [refusal.number() as u64];
-    put_line(out, at, b"refused", &numbers)
+    put_line(out, at, b"refused", &[u64::from(refusal.number())])
 }

@@ -74,7 +74,7 @@ pub fn put_comparing(
 fn last_digit(n: u64) -> u8
     ensures { result ≡ 48 + n % 10 }
 {
-    48 + (n % 10) as u8
+    b'0' + (n % 10) as u8
 }
 
 // Millionths as percent.
@@ -96,11 +96,12 @@ pub fn put_percent(out: &mut [u8], at: usize, n: u64) -> usize
 }
 
 // Millionths as tenths of a percent, rounded up.
+#[tactic(auto, unfolding(rules::specs::Phrases::tenths_up))]
 fn tenths_up(n: u64) -> u64
     requires { n ≤ ppm }
     ensures { result ≡ tenths_up n }
 {
-    (n + 999) / 1_000
+    n.div_ceil(1_000)
 }
 
 // Millionths as percent with one digit after the point, rounded up.

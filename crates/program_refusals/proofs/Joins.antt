@@ -1,10 +1,10 @@
 -- The sentences of refusals as they are put together, and which of them a refusal has. Assumes nothing.
 use Rattle.rules.proofs.Kit.{ℕ, ◌≡◌, refl, sym, ap, ◌∙◌, List, [], ◌∷◌, ◌++◌, append_assoc, append-nil}
 use Rattle.rules.specs.{Choice.equal, Text.text, Text.decimal, Phrases.sentence, Phrases.about, Phrases.comparing, NotChosen.of_model}
-use Rattle.rules.specs.{FaultWords.too_many, FaultWords.field_words, FaultWords.range_words, FaultWords.fault_words, Refused.told_refusal}
+use Rattle.rules.specs.{FaultWords.too_many, FaultWords.field_words, FaultWords.fault_words, Refused.told_refusal}
 use Rattle.rules.specs.declared.refusal.Refusal.{Refusal}
 use Rattle.rules.specs.declared.refusal.Refusal.TheVariants as refusal
-use Rattle.rules.proofs.Choices.{equal-yes, equal-no}
+use Rattle.rules.proofs.Choices.{equal-no}
 use Rattle.program_refusals.specs.Parts.{provider_words, form_words}
 
 -- ---- pieces
@@ -47,23 +47,20 @@ last_field {field} a b c d e value =
     sym
     (equal-no field 1 _ _ a ∙ equal-no field 2 _ _ b ∙ equal-no field 3 _ _ c ∙ equal-no field 4 _ _ d ∙ equal-no field 5 _ _ e)
 
--- A MODEL'S FIELD: its quality, else its ceiling
-pub quality_range : {field : ℕ} → field ≡ 7 → (value : ℕ) → too_many (text " has a quality of ") value (text "10000") ≡ range_words field value
-unfolding range_words
-quality_range {field} h value = sym (equal-yes field 7 _ _ h)
+-- A FORM'S SENTENCE is that of the case it is, and any other case has none
+pub formed_as : {r s : Refusal} → r ≡ s → form_words (told_refusal s).number ≡ form_words (told_refusal r).number
+formed_as e = ap (λ (x : Refusal). form_words (told_refusal x).number) (sym e)
 
-pub ceiling_range : {field : ℕ} → (field ≡ 7 → ⊥) → (value : ℕ) → too_many (text " has a risk ceiling of ") value (text "10000") ≡ range_words field value
-unfolding range_words
-ceiling_range {field} h value = sym (equal-no field 7 _ _ h)
-
--- NO SENTENCE, where the input could be read
-pub no_form : {number : ℕ} → (number ≡ 19 → ⊥) → (number ≡ 20 → ⊥) → (number ≡ 21 → ⊥) → (number ≡ 22 → ⊥) → (number ≡ 23 → ⊥) → (number ≡ 25 → ⊥)
-    → [] ≡ form_words number
-unfolding form_words
-no_form {number} a b c d e f =
-    sym
-    (equal-no number 19 _ _ a ∙ equal-no number 20 _ _ b ∙ equal-no number 21 _ _ c ∙ equal-no number 22 _ _ d ∙ equal-no number 23 _ _ e
-    ∙ equal-no number 25 _ _ f)
+pub no_form : (r : Refusal) → (r ≡ refusal.TooManyForProgram → ⊥) → (r ≡ refusal.CutShort → ⊥) → (r ≡ refusal.WrongTag → ⊥) → (r ≡ refusal.WrongLength → ⊥) → (r ≡ refusal.UnknownRounding → ⊥) → (r ≡ refusal.ZeroAllowance → ⊥)
+    → [] ≡ form_words (told_refusal r).number
+unfolding form_words equal
+no_form refusal.TooManyForProgram a b d e f g = absurd (a refl)
+no_form refusal.CutShort a b d e f g = absurd (b refl)
+no_form refusal.WrongTag a b d e f g = absurd (d refl)
+no_form refusal.WrongLength a b d e f g = absurd (e refl)
+no_form refusal.UnknownRounding a b d e f g = absurd (f refl)
+no_form refusal.ZeroAllowance a b d e f g = absurd (g refl)
+no_form _ a b d e f g = refl
 
 -- A REFUSAL'S SENTENCE is that of the case it is
 pub told_as : {r s : Refusal} → r ≡ s → (asked : ℕ) → fault_words asked (told_refusal s) ≡ fault_words asked (told_refusal r)
@@ -75,29 +72,12 @@ pub others : (asked : ℕ) (r : Refusal) → ((x y z : ℕ) → r ≡ refusal.In
     → ((x y : ℕ) → r ≡ refusal.InvalidProviderId x y → ⊥) → ((x y z : ℕ) → r ≡ refusal.ModelOutOfRange x y z → ⊥)
     → (r ≡ refusal.NoEnabledModels → ⊥) → form_words (told_refusal r).number ≡ fault_words asked (told_refusal r)
 unfolding form_words fault_words equal
-others asked refusal.UnevenBank a b d e f g h k = refl
-others asked refusal.CatalogTooLarge a b d e f g h k = refl
 others asked (refusal.InputOutOfRange x y z) a b d e f g h k = absurd (a x y z refl)
-others asked refusal.NoRoom a b d e f g h k = refl
 others asked refusal.UnknownModel a b d e f g h k = absurd (b refl)
-others asked refusal.NothingSelected a b d e f g h k = refl
-others asked refusal.NotEligible a b d e f g h k = refl
-others asked refusal.BeyondBank a b d e f g h k = refl
 others asked (refusal.PolicyOutOfRange x y) a b d e f g h k = absurd (d x y refl)
 others asked refusal.EmptyCatalog a b d e f g h k = absurd (e refl)
 others asked (refusal.DuplicateModelId x) a b d e f g h k = absurd (f x refl)
 others asked (refusal.InvalidProviderId x y) a b d e f g h k = absurd (g x y refl)
 others asked (refusal.ModelOutOfRange x y z) a b d e f g h k = absurd (h x y z refl)
 others asked refusal.NoEnabledModels a b d e f g h k = absurd (k refl)
-others asked refusal.ReservedModelId a b d e f g h k = refl
-others asked (refusal.InvalidEnabledFlag x y) a b d e f g h k = refl
-others asked refusal.TooManyToStore a b d e f g h k = refl
-others asked refusal.TooManyForProgram a b d e f g h k = refl
-others asked refusal.CutShort a b d e f g h k = refl
-others asked refusal.WrongTag a b d e f g h k = refl
-others asked refusal.WrongLength a b d e f g h k = refl
-others asked refusal.UnknownRounding a b d e f g h k = refl
-others asked refusal.ZeroAllowance a b d e f g h k = refl
-others asked refusal.EpochSpent a b d e f g h k = refl
-others asked refusal.NoFreeSlot a b d e f g h k = refl
-others asked refusal.SlotNotClear a b d e f g h k = refl
+others asked _ a b d e f g h k = refl

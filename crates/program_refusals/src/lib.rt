@@ -22,12 +22,13 @@ fn put_too_many(out: &mut [u8], at: usize, name: &[u8], value: u16, highest: &[u
     ensures out_after { some (result, out.new) ≡ placed out.old at (too_many name.now value highest.now) }
     ensures upper_bound { result ≤ at + (length name.now + 60 + length highest.now) }
 {
-    let next = put_about(out, at, name, value as u64, b" basis points; at most ");
+    let next = put_about(out, at, name, u64::from(value), b" basis points; at most ");
     let end = put_text(out, next, highest);
     put_text(out, end, b" are allowed.")
 }
 
 // The same where the whole is the highest.
+#[tactic(auto, unfolding(rules::specs::Text::text))]
 fn put_past_whole(out: &mut [u8], at: usize, name: &[u8], value: u16) -> usize
     requires { at + (length name.now + 65) ≤ length out.old }
     ensures out_after { some (result, out.new) ≡ placed out.old at (too_many name.now value (text "10000")) }
@@ -54,6 +55,7 @@ fn put_field(out: &mut [u8], at: usize, field: u8, value: u16) -> usize
 }
 
 // A model's quality or ceiling.
+#[tactic(auto, unfolding(rules::specs::FaultWords::range_words, rules::specs::Choice::equal, rules::specs::Text::text))]
 fn put_range(out: &mut [u8], at: usize, field: u8, value: u16) -> usize
     requires { at + 110 ≤ length out.old }
     ensures out_after { some (result, out.new) ≡ placed out.old at (range_words field value) }
@@ -81,7 +83,7 @@ fn put_range_sentence(out: &mut [u8], at: usize, id: u32, field: u8, value: u16)
     ensures out_after { some (result, out.new) ≡ placed out.old at (of_model id (range_words field value)) }
     ensures upper_bound { result ≤ at + 140 }
 {
-    let next = put_about(out, at, b"Model ", id as u64, b"");
+    let next = put_about(out, at, b"Model ", u64::from(id), b"");
     let end = put_range(out, next, field, value);
     put_byte(out, end, b'\n')
 }
@@ -97,35 +99,37 @@ fn put_provider(out: &mut [u8], at: usize, id: u32, provider: u16) -> usize
         out,
         at,
         b"Model ",
-        id as u64,
+        u64::from(id),
         b" has provider ",
-        provider as u64,
+        u64::from(provider),
         range,
     );
     put_byte(out, end, b'\n')
 }
 
-// The sentences of 19 to 23 and 25; no other number that comes here has one.
-fn put_form_fault(out: &mut [u8], at: usize, number: u8) -> usize
+// The sentences of 19 to 23 and 25; no other refusal that comes here has one.
+fn put_form_fault(out: &mut [u8], at: usize, refusal: Refusal) -> usize
     requires { at + 70 ≤ length out.old }
-    ensures out_after { some (result, out.new) ≡ placed out.old at (form_words number) }
+    ensures out_after { some (result, out.new) ≡ placed out.old at (form_words (told_refusal refusal).number) }
     ensures upper_bound { result ≤ at + 70 }
 {
     let misplaced = b"A field of the input is missing, out of its order, or one too many.";
     let misfit = b"A field of the input has a length that its tag does not have.";
+    let unrounded = b"The input's rounding, under tag 4, is not 1.";
     let unallowed = b"The input's latency allowance, under tag 5, is 0.";
-    match number {
-        19 => put_sentence(out, at, b"More than 900 models are listed."),
-        20 => put_sentence(out, at, b"The input ends within a field."),
-        21 => put_sentence(out, at, misplaced),
-        22 => put_sentence(out, at, misfit),
-        23 => put_sentence(out, at, b"The input's rounding, under tag 4, is not 1."),
-        25 => put_sentence(out, at, unallowed),
+    match refusal {
+        Refusal::TooManyForProgram => put_sentence(out, at, b"More than 900 models are listed."),
+        Refusal::CutShort => put_sentence(out, at, b"The input ends within a field."),
+        Refusal::WrongTag => put_sentence(out, at, misplaced),
+        Refusal::WrongLength => put_sentence(out, at, misfit),
+        Refusal::UnknownRounding => put_sentence(out, at, unrounded),
+        Refusal::ZeroAllowance => put_sentence(out, at, unallowed),
         _ => at,
     }
 }
 
 // The sentence of a refusal, by the id that was asked about.
+#[tactic(auto, unfolding(rules::specs::FaultWords::fault_words, rules::specs::Choice::equal, crate::specs::Parts::provider_words))]
 fn put_fault(out: &mut [u8], at: usize, asked: u32, refusal: Refusal) -> usize
     requires { at + 140 ≤ length out.old }
     ensures out_after { some (result, out.new) ≡ placed out.old at (fault_words asked (told_refusal refusal)) }
@@ -133,7 +137,13 @@ fn put_fault(out: &mut [u8], at: usize, asked: u32, refusal: Refusal) -> usize
 {
     match refusal {
         Refusal::InputOutOfRange { field, value, .. } => put_field_sentence(out, at, field, value),
-        Refusal::UnknownModel => put_remark(out, at, b"Model ", asked as u64, b" is not listed."),
+        Refusal::UnknownModel => put_remark(
+            out,
+            at,
+            b"Model ",
+            u64::from(asked),
+            b" is not listed.",
+        ),
         Refusal::PolicyOutOfRange { field, value } => put_field_sentence(out, at, field, value),
         Refusal::EmptyCatalog => put_sentence(out, at, b"No model is listed."),
         Refusal::DuplicateModelId { model_id } => {
@@ -141,7 +151,7 @@ fn put_fault(out: &mut [u8], at: usize, asked: u32, refusal: Refusal) -> usize
                 out,
                 at,
                 b"Model ",
-                model_id as u64,
+                u64::from(model_id),
                 b" is listed more than once.",
             )
         }
@@ -155,7 +165,7 @@ fn put_fault(out: &mut [u8], at: usize, asked: u32, refusal: Refusal) -> usize
             value,
         } => put_range_sentence(out, at, model_id, field, value),
         Refusal::NoEnabledModels => put_sentence(out, at, b"Every model is switched off."),
-        _ => put_form_fault(out, at, refusal.number()),
+        _ => put_form_fault(out, at, refusal),
     }
 }
 

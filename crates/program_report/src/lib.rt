@@ -18,23 +18,21 @@ use program_deliver::sizes::UNIT_BYTES;
 use program_input::{bank_in, policy_in, program_outcome, request_in};
 use program_lever_lines::put_lever_lines;
 use program_lines::{put_counts, put_decision, put_refused};
-use rules::{KernelInput, Outcome, PolicySnapshot, Traced, Written};
+use rules::{KernelInput, PolicySnapshot, Refusal};
 
 // The report over a bank of whole records.
 fn put_report(out: &mut [u8], policy: PolicySnapshot, bank: &[u8], request: KernelInput) -> usize
     requires { (unit_bytes ≤ length out.old) × (bank_faults bank.now ≡ []) }
     ensures { some (result, out.new) ≡ placed out.old 0 (unit_report policy request (listed_of bank.now)) }
 {
-    let traced = prescribe_with_trace(policy, bank, request);
-    let Traced::Decided(decision, trace) = traced else {
-        // No such bank comes here.
-        return 0;
-    };
-    let margin = decision_margin(policy, bank, request);
-    let levers = margin.levers;
+    let (decision, trace) = prescribe_with_trace(policy, bank, request).unwrap();
     let counts = put_decision(out, 0, decision);
     let next = put_counts(out, counts, trace.rejections);
-    put_lever_lines(out, next, levers)
+    match decision_margin(policy, bank, request) {
+        Ok(margin) => put_lever_lines(out, next, margin.levers),
+        // A rejection has no margin.
+        Err(_) => next,
+    }
 }
 
 // The whole answer.
@@ -42,18 +40,15 @@ fn put_unit(out: &mut [u8], input: &[u8]) -> usize
     requires { unit_bytes ≤ length out.old }
     ensures { some (result, out.new) ≡ placed out.old 0 (unit_text input.now) }
 {
-    let outcome = program_outcome(input);
-    if let Outcome::Refused(refusal) = outcome {
+    if let Err(refusal) = program_outcome(input) {
         return put_refused(out, 0, refusal);
     }
-    let policy = policy_in(input);
-    let request = request_in(input);
-    put_report(out, policy, bank_in(input), request)
+    put_report(out, policy_in(input), bank_in(input), request_in(input))
 }
 
 // What the unit's program prints for an input, at the start of a buffer, whose other bytes stay. Bad input gets the line of its refusal.
 // Refused, with nothing written: 4, where the buffer has fewer than 840 bytes and the text more than the buffer.
-pub fn unit_text(input: &[u8], out: &mut [u8]) -> Written
+pub fn unit_text(input: &[u8], out: &mut [u8]) -> Result<usize, Refusal>
     ensures { (told_written result ≡ print_of (unit_text input.now) (length out.old)) × (out.new ≡ print_buffer (unit_text input.now) out.old) × (length (unit_text input.now) ≤ unit_bytes) }
 {
     let mut space = [0u8; UNIT_BYTES];

@@ -13,11 +13,8 @@ ghost use Rattle.program_sentences.specs.Parts.{fall_up, fall_start};
 
 use program_phrases::{put_about, put_comparing, put_percent, put_percent_up, put_sentence};
 use rules::limits::PPM;
-use rules::{Boundaries, BoundaryCost, Levers, Requirement};
+use rules::{Boundaries, Levers, Requirement};
 use text::{put_byte, put_text};
-
-// The rooms for levers in an answer.
-const LEVERS: usize = 4;
 
 // Quality and ceiling must rise.
 fn put_rise(out: &mut [u8], at: usize, name: &[u8], lever: Requirement) -> usize
@@ -50,16 +47,6 @@ fn put_latency(out: &mut [u8], at: usize, lever: Requirement) -> usize
     put_byte(out, end, b'\n')
 }
 
-// By how much a price must fall to come to a share of today's.
-fn fall(boundary: u64) -> u64
-    ensures { result ≡ ppm - boundary }
-{
-    if PPM < boundary {
-        return 0;
-    }
-    PPM - boundary
-}
-
 // By how much the price must fall, rounded up.
 fn put_fall_up(out: &mut [u8], at: usize, boundary: u64) -> usize
     requires { at + 81 ≤ length out.old }
@@ -67,7 +54,7 @@ fn put_fall_up(out: &mut [u8], at: usize, boundary: u64) -> usize
     ensures upper_bound { result ≤ at + 81 }
 {
     let named = put_text(out, at, b"Price alone: it must fall by ");
-    let told = put_percent_up(out, named, fall(boundary));
+    let told = put_percent_up(out, named, PPM.saturating_sub(boundary));
     put_text(out, told, b" or more; exactly, by ")
 }
 
@@ -78,23 +65,21 @@ fn put_fall_start(out: &mut [u8], at: usize, boundary: u64) -> usize
     ensures upper_bound { result ≤ at + 165 }
 {
     let next = put_fall_up(out, at, boundary);
-    let exact = put_percent(out, next, fall(boundary));
+    let exact = put_percent(out, next, PPM.saturating_sub(boundary));
     let share = put_text(out, exact, b", to ");
     let end = put_percent(out, share, boundary);
     put_text(out, end, b" of today's")
 }
 
 // What the request then costs.
-fn put_then(out: &mut [u8], at: usize, cost: BoundaryCost) -> usize
+fn put_then(out: &mut [u8], at: usize, cost: Option<u64>) -> usize
     requires { at + 60 ≤ length out.old }
     ensures out_after { some (result, out.new) ≡ placed out.old at (cost_words (told_cost cost)) }
     ensures upper_bound { result ≤ at + 60 }
 {
     match cost {
-        BoundaryCost::Unpriced => put_text(out, at, b"."),
-        BoundaryCost::Microunits(c) => {
-            put_about(out, at, b", where the request costs ", c, b" microunits.")
-        }
+        None => put_text(out, at, b"."),
+        Some(c) => put_about(out, at, b", where the request costs ", c, b" microunits."),
     }
 }
 
@@ -104,9 +89,8 @@ fn put_fall(out: &mut [u8], at: usize, lever: Requirement) -> usize
     ensures out_after { some (result, out.new) ≡ placed out.old at (fall_words (told_entry lever)) }
     ensures upper_bound { result ≤ at + 230 }
 {
-    let cost = lever.cost_at_boundary_microunits;
     let next = put_fall_start(out, at, lever.boundary);
-    let told = put_then(out, next, cost);
+    let told = put_then(out, next, lever.cost_at_boundary_microunits);
     put_byte(out, told, b'\n')
 }
 
@@ -129,16 +113,10 @@ fn put_price(out: &mut [u8], at: usize, levers: Levers) -> usize
     ensures out_after { some (result, out.new) ≡ placed out.old at (price_words (take levers.count (map told_entry levers.levers))) }
     ensures upper_bound { result ≤ at + 230 }
 {
-    let mut i = 0;
-    while i < LEVERS {
-        if levers.count <= i {
-            return put_no_price(out, at);
-        }
-        let lever = levers.levers[i];
+    for &lever in levers.levers.iter().take(levers.count) {
         if lever.lever == 3 {
             return put_fall(out, at, lever);
         }
-        i += 1;
     }
     put_no_price(out, at)
 }
@@ -155,24 +133,19 @@ pub fn put_unsearched(out: &mut [u8], at: usize, why: &[u8]) -> usize
 }
 
 // The sentence of a lever other than the price.
+#[tactic(auto, unfolding(rules::specs::Words::lever_words, rules::specs::Choice::equal, rules::specs::Text::text))]
 fn put_lever_words(out: &mut [u8], at: usize, lever: Requirement) -> usize
     requires { at + 120 ≤ length out.old }
     ensures out_after { some (result, out.new) ≡ placed out.old at (lever_words (told_entry lever)) }
     ensures upper_bound { result ≤ at + 120 }
 {
-    if lever.lever == 1 {
-        return put_rise(out, at, b"Quality alone: ", lever);
+    match lever.lever {
+        1 => put_rise(out, at, b"Quality alone: ", lever),
+        2 => put_latency(out, at, lever),
+        3 => at,
+        4 => put_rise(out, at, b"Risk ceiling alone: ", lever),
+        _ => put_sentence(out, at, b"Switched on, it would be chosen."),
     }
-    if lever.lever == 2 {
-        return put_latency(out, at, lever);
-    }
-    if lever.lever == 3 {
-        return at;
-    }
-    if lever.lever == 4 {
-        return put_rise(out, at, b"Risk ceiling alone: ", lever);
-    }
-    put_sentence(out, at, b"Switched on, it would be chosen.")
 }
 
 // The sentences of an answer's first levers but for the price.
@@ -181,15 +154,9 @@ fn put_levers_words(out: &mut [u8], at: usize, levers: Levers) -> usize
     ensures out_after { some (result, out.new) ≡ placed out.old at (levers_words (take levers.count (map told_entry levers.levers))) }
     ensures upper_bound { result ≤ at + 480 }
 {
-    let mut i = 0;
     let mut next = at;
-    while i < LEVERS {
-        if levers.count <= i {
-            return next;
-        }
-        let lever = levers.levers[i];
+    for &lever in levers.levers.iter().take(levers.count) {
         next = put_lever_words(out, next, lever);
-        i += 1;
     }
     next
 }
@@ -200,12 +167,11 @@ fn put_off(out: &mut [u8], at: usize, asked: Boundaries) -> usize
     ensures out_after { some (result, out.new) ≡ placed out.old at (off_words (told_boundaries asked)) }
     ensures upper_bound { result ≤ at + 710 }
 {
-    let levers = asked.levers;
     let next = put_unsearched(out, at, b"the model is switched off");
-    if levers.count == 0 {
+    if asked.levers.count == 0 {
         return put_sentence(out, next, b"Switched on, it would still not be chosen.");
     }
-    put_levers_words(out, next, levers)
+    put_levers_words(out, next, asked.levers)
 }
 
 // Of one that is on: its price, then each other lever that wins.
@@ -214,13 +180,12 @@ fn put_on(out: &mut [u8], at: usize, asked: Boundaries) -> usize
     ensures out_after { some (result, out.new) ≡ placed out.old at (on_words (told_boundaries asked)) }
     ensures upper_bound { result ≤ at + 710 }
 {
-    let levers = asked.levers;
-    let next = put_price(out, at, levers);
-    if levers.count == 0 {
+    let next = put_price(out, at, asked.levers);
+    if asked.levers.count == 0 {
         let nothing = b"Nor would its quality, latency or risk ceiling alone.";
         return put_sentence(out, next, nothing);
     }
-    put_levers_words(out, next, levers)
+    put_levers_words(out, next, asked.levers)
 }
 
 // What would make a model the choice that is switched off or not.

@@ -1,7 +1,7 @@
 -- Why a model was not chosen: sentences as they are put together, and which one a gate or a key gets. Assumes nothing.
 use Rattle.rules.proofs.Kit.{ℕ, ◌-◌, ◌<◌, ◌≤◌, ◌≡◌, sym, ap, ap₂, ◌∙◌, true, false, List, [], ◌∷◌, ◌++◌, append-nil, lt-ltb, le-ltb, ne_eqb, ℤ, lt_z}
 use Rattle.rules.specs.{Choice.below, Choice.equal, Text.text, Text.decimal, Phrases.sentence, Phrases.about, Phrases.comparing}
-use Rattle.rules.specs.{NotChosen.of_model, NotChosen.later_gate_words, NotChosen.gate_words, NotChosen.budget_words, NotChosen.key_words}
+use Rattle.rules.specs.{NotChosen.of_model, NotChosen.later_gate_words, NotChosen.budget_words, NotChosen.key_words}
 use Rattle.program_standing.specs.Parts.{lower_utility_words}
 
 -- ---- pieces
@@ -28,42 +28,37 @@ model_joins id words = ap (λ (s : List ℕ). s ++ words ++ (10 ∷ [])) (append
 
 module _ (gate m l : ℕ) where
   -- NO GATE FROM 4 TO 7: the risk
-  pub gate-eight : (gate ≡ 4 → ⊥) → (gate ≡ 5 → ⊥) → (gate ≡ 6 → ⊥) → (gate ≡ 7 → ⊥)
+  pub gate_eight : (gate ≡ 4 → ⊥) → (gate ≡ 5 → ⊥) → (gate ≡ 6 → ⊥) → (gate ≡ 7 → ⊥)
       → comparing (text " is rejected: the request's risk of ") m (text " basis points is above its ceiling of ") l (text ".") ≡ later_gate_words gate m l
   unfolding later_gate_words equal
-  gate-eight four five six seven = rw (ne_eqb gate 4 four, ne_eqb gate 5 five, ne_eqb gate 6 six, ne_eqb gate 7 seven)
-
-  -- NO GATE FROM 1 TO 3: a later one
-  pub gate-later : (gate ≡ 1 → ⊥) → (gate ≡ 2 → ⊥) → (gate ≡ 3 → ⊥) → later_gate_words gate m l ≡ gate_words gate m l
-  unfolding gate_words equal
-  gate-later one two three = rw (ne_eqb gate 1 one, ne_eqb gate 2 two, ne_eqb gate 3 three)
+  gate_eight four five six seven = rw (ne_eqb gate 4 four, ne_eqb gate 5 five, ne_eqb gate 6 six, ne_eqb gate 7 seven)
 
 -- ---- keys
 
 module _ {u b : ℤ} (utility best : ℤ) (cost lowest quality highest : ℕ) (e : u ≡ utility) (f : b ≡ best) where
   -- THE UTILITY is lower
-  pub key-utility : lt_z u b ≡ true → lower_utility_words u b ≡ key_words utility best cost lowest quality highest
+  pub key_utility : lt_z u b ≡ true → lower_utility_words u b ≡ key_words utility best cost lowest quality highest
   unfolding key_words lower_utility_words
-  key-utility h = rw (sym (ap₂ lt_z e f) ∙ h) (ap₂ lower_utility_words e f)
+  key_utility h = rw (sym (ap₂ lt_z e f) ∙ h) (ap₂ lower_utility_words e f)
 
   module _ (level : lt_z u b ≡ false) where
     -- else THE COST is higher
-    pub key-cost : lowest < cost
+    pub key_cost : lowest < cost
         → comparing (text "at the same utility, its cost of ") cost (text " microunits is above ") lowest (text ".")
         ≡ key_words utility best cost lowest quality highest
     unfolding key_words below
-    key-cost h = rw (sym (ap₂ lt_z e f) ∙ level, lt-ltb lowest cost h)
+    key_cost h = rw (sym (ap₂ lt_z e f) ∙ level, lt-ltb lowest cost h)
 
     module _ (cheap : cost ≤ lowest) where
       -- else THE QUALITY is lower
-      pub key-quality : quality < highest
+      pub key_quality : quality < highest
           → comparing (text "at the same utility and cost, its quality of ") quality (text " basis points is below ") highest (text ".")
           ≡ key_words utility best cost lowest quality highest
       unfolding key_words below
-      key-quality h = rw (sym (ap₂ lt_z e f) ∙ level, le-ltb lowest cost cheap, lt-ltb quality highest h)
+      key_quality h = rw (sym (ap₂ lt_z e f) ∙ level, le-ltb lowest cost cheap, lt-ltb quality highest h)
 
       -- else THE ID is higher
-      pub key-id : highest ≤ quality
+      pub key_id : highest ≤ quality
           → text "at the same utility, cost and quality, the lower id goes first." ≡ key_words utility best cost lowest quality highest
       unfolding key_words below
-      key-id h = rw (sym (ap₂ lt_z e f) ∙ level, le-ltb lowest cost cheap, le-ltb quality highest h)
+      key_id h = rw (sym (ap₂ lt_z e f) ∙ level, le-ltb lowest cost cheap, le-ltb quality highest h)

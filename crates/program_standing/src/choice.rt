@@ -1,6 +1,6 @@
 // Who was chosen, at what cost and utility; or why nothing was.
 ghost use Rattle.std.specs.Prelude.{◌≡◌, ◌+◌, ◌≤◌, length};
-ghost use Rattle.rules.specs.Numbers.{told_decision};
+ghost use Rattle.rules.specs.Numbers.{told_decision, reason_no};
 ghost use Rattle.rules.specs.Phrases.{sentence, comparing};
 ghost use Rattle.rules.specs.Text.{text};
 ghost use Rattle.rules.specs.Words.{chosen_words, rejection_words, choice_words};
@@ -8,15 +8,8 @@ ghost use Rattle.std.proofs.Math.Option.{some};
 ghost use Rattle.splice.specs.Placed.{placed};
 
 use program_phrases::{put_comparing, put_remark, put_sentence};
-use rules::{KernelDecision, KernelInput, PolicySnapshot};
+use rules::{KernelDecision, KernelInput, KernelReason, PolicySnapshot};
 use text::{put_byte, put_signed};
-
-// Document 01's number of a rejection, and of the two reasons that stop a request.
-const REJECT: u8 = 3;
-
-const RISK_HARD_LIMIT: u16 = 100;
-
-const CONFIDENCE_HARD_LIMIT: u16 = 101;
 
 // The chosen model.
 fn put_chosen(out: &mut [u8], at: usize, decision: KernelDecision) -> usize
@@ -24,17 +17,14 @@ fn put_chosen(out: &mut [u8], at: usize, decision: KernelDecision) -> usize
     ensures out_after { some (result, out.new) ≡ placed out.old at (chosen_words (told_decision decision)) }
     ensures upper_bound { result ≤ at + 180 }
 {
-    let id = decision.selected_model_id;
-    let cost = decision.estimated_cost_microunits;
-    let after = b" microunits, with a utility of ";
     let next = put_comparing(
         out,
         at,
         b"Chosen: model ",
-        id as u64,
+        u64::from(decision.selected_model_id),
         b", at a cost of ",
-        cost,
-        after,
+        decision.estimated_cost_microunits,
+        b" microunits, with a utility of ",
     );
     let end = put_signed(out, next, decision.expected_utility_microunits);
     put_sentence(out, end, b" microunits.")
@@ -53,7 +43,15 @@ fn put_stopped(
     ensures out_after { some (result, out.new) ≡ placed out.old at (sentence (comparing before.now measured middle.now limit (text "."))) }
     ensures upper_bound { result ≤ at + (length before.now + 42 + length middle.now) }
 {
-    let end = put_comparing(out, at, before, measured as u64, middle, limit as u64, b".");
+    let end = put_comparing(
+        out,
+        at,
+        before,
+        u64::from(measured),
+        middle,
+        u64::from(limit),
+        b".",
+    );
     put_byte(out, end, b'\n')
 }
 
@@ -63,41 +61,41 @@ fn put_rejection(
     at: usize,
     policy: PolicySnapshot,
     input: KernelInput,
-    reason: u16,
+    reason: KernelReason,
 ) -> usize
     requires { at + 180 ≤ length out.old }
-    ensures out_after { some (result, out.new) ≡ placed out.old at (rejection_words policy input reason) }
+    ensures out_after { some (result, out.new) ≡ placed out.old at (rejection_words policy input (reason_no reason)) }
     ensures upper_bound { result ≤ at + 180 }
 {
-    if reason == RISK_HARD_LIMIT {
-        let before = b"Nothing is chosen: the request is stopped, since its risk of ";
-        let middle = b" basis points is not below the policy's hard limit of ";
-        return put_stopped(
+    match reason {
+        KernelReason::RiskHardLimit => put_stopped(
             out,
             at,
-            before,
+            b"Nothing is chosen: the request is stopped, since its risk of ",
             input.risk_bps,
-            middle,
+            b" basis points is not below the policy's hard limit of ",
             policy.hard_risk_limit_bps,
-        );
-    }
-    if reason == CONFIDENCE_HARD_LIMIT {
-        let before = b"Nothing is chosen: the request is stopped, since its confidence of ";
-        let middle = b" basis points is below the policy's minimum of ";
-        return put_stopped(
+        ),
+        KernelReason::ConfidenceHardLimit => put_stopped(
             out,
             at,
-            before,
+            b"Nothing is chosen: the request is stopped, since its confidence of ",
             input.confidence_bps,
-            middle,
+            b" basis points is below the policy's minimum of ",
             policy.minimum_confidence_bps,
-        );
+        ),
+        _ => put_remark(
+            out,
+            at,
+            b"Nothing is chosen: no model is eligible, with reason ",
+            u64::from(reason.number()),
+            b".",
+        ),
     }
-    let before = b"Nothing is chosen: no model is eligible, with reason ";
-    put_remark(out, at, before, reason as u64, b".")
 }
 
 // The choice.
+#[tactic(auto, unfolding(rules::specs::Words::choice_words))]
 pub fn put_choice(
     out: &mut [u8],
     at: usize,
@@ -109,10 +107,8 @@ pub fn put_choice(
     ensures out_after { some (result, out.new) ≡ placed out.old at (choice_words policy input (told_decision decision)) }
     ensures upper_bound { result ≤ at + 180 }
 {
-    let action = decision.action;
-    let reason = decision.reason;
-    if action.number() == REJECT {
-        return put_rejection(out, at, policy, input, reason.number());
+    if decision.is_rejected() {
+        return put_rejection(out, at, policy, input, decision.reason);
     }
     put_chosen(out, at, decision)
 }

@@ -11,64 +11,90 @@ use rules::{CandidateVerdict, KernelDecision, UtilityTerms};
 use text::{put_byte, put_signed, put_text};
 
 // Gates 4 to 8: capabilities, provider, regions, risk.
+#[tactic(auto, unfolding(rules::specs::NotChosen::later_gate_words, rules::specs::Choice::equal, rules::specs::Text::text))]
 fn put_later_gate(out: &mut [u8], at: usize, gate: u8, measured: u64, limit: u64) -> usize
     requires { at + 150 ≤ length out.old }
     ensures out_after { some (result, out.new) ≡ placed out.old at (later_gate_words gate measured limit) }
     ensures upper_bound { result ≤ at + 150 }
 {
-    if gate == 4 {
-        let before = b" is rejected: its capabilities, mask ";
-        let middle = b", lack some of those required, mask ";
-        return put_comparing(out, at, before, measured, middle, limit, b".");
+    match gate {
+        4 => put_comparing(
+            out,
+            at,
+            b" is rejected: its capabilities, mask ",
+            measured,
+            b", lack some of those required, mask ",
+            limit,
+            b".",
+        ),
+        5 => put_comparing(
+            out,
+            at,
+            b" is rejected: its provider ",
+            measured,
+            b" is above ",
+            limit,
+            b".",
+        ),
+        6 => put_comparing(
+            out,
+            at,
+            b" is rejected: its provider ",
+            measured,
+            b" is not among those allowed, mask ",
+            limit,
+            b".",
+        ),
+        7 => put_comparing(
+            out,
+            at,
+            b" is rejected: its regions, mask ",
+            measured,
+            b", have none of those required, mask ",
+            limit,
+            b".",
+        ),
+        _ => put_comparing(
+            out,
+            at,
+            b" is rejected: the request's risk of ",
+            measured,
+            b" basis points is above its ceiling of ",
+            limit,
+            b".",
+        ),
     }
-    let provider = b" is rejected: its provider ";
-    if gate == 5 {
-        return put_comparing(out, at, provider, measured, b" is above ", limit, b".");
-    }
-    if gate == 6 {
-        let middle = b" is not among those allowed, mask ";
-        return put_comparing(out, at, provider, measured, middle, limit, b".");
-    }
-    if gate == 7 {
-        let before = b" is rejected: its regions, mask ";
-        let middle = b", have none of those required, mask ";
-        return put_comparing(out, at, before, measured, middle, limit, b".");
-    }
-    let before = b" is rejected: the request's risk of ";
-    let middle = b" basis points is above its ceiling of ";
-    put_comparing(out, at, before, measured, middle, limit, b".")
 }
 
 // The gate that a model fails, with both numbers.
+#[tactic(auto, unfolding(rules::specs::NotChosen::gate_words, rules::specs::Choice::equal, rules::specs::Text::text))]
 fn put_gate(out: &mut [u8], at: usize, gate: u8, measured: u64, limit: u64) -> usize
     requires { at + 150 ≤ length out.old }
     ensures out_after { some (result, out.new) ≡ placed out.old at (gate_words gate measured limit) }
     ensures upper_bound { result ≤ at + 150 }
 {
-    if gate == 1 {
-        return put_text(out, at, b" is switched off.");
+    match gate {
+        1 => put_text(out, at, b" is switched off."),
+        2 => put_comparing(
+            out,
+            at,
+            b" is rejected: its quality of ",
+            measured,
+            b" basis points is below the ",
+            limit,
+            b" required.",
+        ),
+        3 => put_comparing(
+            out,
+            at,
+            b" is rejected: its latency of ",
+            measured,
+            b" ms is above the limit of ",
+            limit,
+            b" ms.",
+        ),
+        _ => put_later_gate(out, at, gate, measured, limit),
     }
-    if gate == 2 {
-        let before = b" is rejected: its quality of ";
-        let middle = b" basis points is below the ";
-        return put_comparing(out, at, before, measured, middle, limit, b" required.");
-    }
-    if gate == 3 {
-        let before = b" is rejected: its latency of ";
-        let middle = b" ms is above the limit of ";
-        return put_comparing(out, at, before, measured, middle, limit, b" ms.");
-    }
-    put_later_gate(out, at, gate, measured, limit)
-}
-
-// By how much a cost is above a budget.
-fn excess(cost: u64, budget: u64) -> u64
-    ensures { result ≡ cost - budget }
-{
-    if cost < budget {
-        return 0;
-    }
-    cost - budget
 }
 
 // Over budget, and by how much.
@@ -77,14 +103,13 @@ fn put_budget(out: &mut [u8], at: usize, cost: u64, budget: u64) -> usize
     ensures out_after { some (result, out.new) ≡ placed out.old at (budget_words cost budget) }
     ensures upper_bound { result ≤ at + 150 }
 {
-    let before = b" is over budget: it costs ";
     let next = put_comparing(
         out,
         at,
-        before,
+        b" is over budget: it costs ",
         cost,
         b" microunits, ",
-        excess(cost, budget),
+        cost.saturating_sub(budget),
         b"",
     );
     put_about(out, next, b" more than the budget of ", budget, b".")
@@ -127,18 +152,16 @@ fn put_key(
     ensures out_after { some (result, out.new) ≡ placed out.old at (key_words terms.utility decision.expected_utility_microunits terms.cost_microunits decision.estimated_cost_microunits quality highest) }
     ensures upper_bound { result ≤ at + 130 }
 {
-    let best = decision.expected_utility_microunits;
-    if terms.utility < best {
-        return put_lower_utility(out, at, terms.utility, best);
+    if terms.utility < decision.expected_utility_microunits {
+        return put_lower_utility(out, at, terms.utility, decision.expected_utility_microunits);
     }
     let cost = terms.cost_microunits;
     let lowest = decision.estimated_cost_microunits;
     if lowest < cost {
-        let before = b"at the same utility, its cost of ";
         return put_comparing(
             out,
             at,
-            before,
+            b"at the same utility, its cost of ",
             cost,
             b" microunits is above ",
             lowest,
@@ -146,15 +169,13 @@ fn put_key(
         );
     }
     if quality < highest {
-        let before = b"at the same utility and cost, its quality of ";
-        let middle = b" basis points is below ";
         return put_comparing(
             out,
             at,
-            before,
-            quality as u64,
-            middle,
-            highest as u64,
+            b"at the same utility and cost, its quality of ",
+            u64::from(quality),
+            b" basis points is below ",
+            u64::from(highest),
             b".",
         );
     }
@@ -178,12 +199,18 @@ fn put_outranked(
     ensures out_after { some (result, out.new) ≡ placed out.old at (outranked_words (told_terms 4 terms) quality (told_decision decision) highest) }
     ensures upper_bound { result ≤ at + 180 }
 {
-    let id = decision.selected_model_id;
-    let next = put_about(out, at, b" is outranked by model ", id as u64, b": ");
+    let next = put_about(
+        out,
+        at,
+        b" is outranked by model ",
+        u64::from(decision.selected_model_id),
+        b": ",
+    );
     put_key(out, next, terms, quality, decision, highest)
 }
 
 // Why a model with a verdict was not chosen.
+#[tactic(auto, unfolding(rules::specs::NotChosen::reason_words, rules::specs::Choice::equal))]
 fn put_reason(
     out: &mut [u8],
     at: usize,
@@ -227,7 +254,7 @@ pub fn put_standing(
     ensures out_after { some (result, out.new) ≡ placed out.old at (standing_words id (told_verdict verdict) quality (told_decision decision) highest) }
     ensures upper_bound { result ≤ at + 210 }
 {
-    let next = put_about(out, at, b"Model ", id as u64, b"");
+    let next = put_about(out, at, b"Model ", u64::from(id), b"");
     let end = put_reason(out, next, verdict, quality, decision, highest);
     put_byte(out, end, b'\n')
 }

@@ -19,6 +19,7 @@ pub fn read_full<R: Read>(reader: &mut R, buffer: &mut [u8]) -> io::Result<usize
     ensures ended { IfOk result (λ n. n < length buffer.new → IsAtEnd (R.remaining reader.new)) }
 {
     let mut done = 0;
+    // By hand: `read_exact` fails where the input ends early, and does not tell how many bytes came.
     while done < buffer.len() {
         let n = reader.read(&mut buffer[done..])?;
         if n == 0 {
@@ -33,10 +34,7 @@ pub fn read_full<R: Read>(reader: &mut R, buffer: &mut [u8]) -> io::Result<usize
 pub fn argument<E: Env>(environment: &E, i: usize, buffer: &mut [u8]) -> usize
     ensures { IsPrefixLen result buffer.new }
 {
-    match environment.arg(i, buffer) {
-        Ok(n) => n,
-        Err(_) => 0,
-    }
+    environment.arg(i, buffer).unwrap_or(0)
 }
 
 // Whether there is such an argument.
@@ -49,10 +47,5 @@ fn is_there<E: Env>(environment: &E, i: usize) -> bool {
 pub fn argument_count<E: Env>(environment: &E) -> usize
     ensures { result ≤ 4 }
 {
-    for i in 0..4 {
-        if !is_there(environment, i) {
-            return i;
-        }
-    }
-    4
+    (0..4).take_while(|&i| is_there(environment, i)).count()
 }

@@ -17,10 +17,9 @@ ghost use Rattle.program_deliver.specs.Sizes.{words_bytes};
 use bank::unchecked::model_at;
 use call_checks::listing::first_listed;
 use counterfactual_pass::pass::selected;
-use counterfactual_win::what_would_win;
 use explain_entries::verdict::verdict_alone;
 use kernel_scan::pricing_for;
-use program_ask::ask_outcome;
+use program_ask::asked;
 use program_deliver::deliver;
 use program_deliver::sizes::WORDS_BYTES;
 use program_input::{bank_in, policy_in, request_in};
@@ -29,21 +28,17 @@ use program_refusals::put_refused_words;
 use program_sentences::{put_searched, put_unsearched};
 use program_standing::choice::put_choice;
 use program_standing::standing::put_standing;
-use rules::{
-    Boundaries, CandidateVerdict, Found, KernelInput, KernelModel, Outcome, PolicySnapshot, Written,
-};
+use rules::{Boundaries, CandidateVerdict, KernelInput, KernelModel, PolicySnapshot, Refusal};
 
 // The quality of the first listed record with an id, 0 where there is none.
 fn quality_of(bank: &[u8], id: u32) -> u16
     requires { records_in (length bank.now) ≤ max_catalog_models }
     ensures { result ≡ quality_of (first_listed id (listed_of bank.now)) }
 {
-    let found = first_listed(bank, id);
-    let Found::At(place) = found else {
+    let Some(place) = first_listed(bank, id) else {
         return 0;
     };
-    let model = model_at(bank, place as usize);
-    model.quality_bps
+    model_at(bank, usize::from(place)).quality_bps
 }
 
 // What a model is told.
@@ -60,17 +55,16 @@ fn put_requested(out: &mut [u8], at: usize, bank: &[u8], id: u32) -> usize
     ensures out_after { some (result, out.new) ≡ placed out.old at (requested_words id (first_listed id (listed_of bank.now))) }
     ensures upper_bound { result ≤ at + 60 }
 {
-    let found = first_listed(bank, id);
-    let Found::At(_) = found else {
-        return put_remark(
+    match first_listed(bank, id) {
+        Some(_) => at,
+        None => put_remark(
             out,
             at,
             b"The requested model ",
-            id as u64,
+            u64::from(id),
             b" is not listed.",
-        );
-    };
-    at
+        ),
+    }
 }
 
 // The request is stopped.
@@ -87,7 +81,7 @@ fn put_already(out: &mut [u8], at: usize, id: u32) -> usize
     requires { at + 920 ≤ length out.old }
     ensures { some (result, out.new) ≡ placed out.old at (already_words id) }
 {
-    let next = put_remark(out, at, b"Model ", id as u64, b" is chosen already.");
+    let next = put_remark(out, at, b"Model ", u64::from(id), b" is chosen already.");
     put_unsearched(out, next, b"the model is chosen already")
 }
 
@@ -103,13 +97,12 @@ fn put_unchosen(
     requires { at + 920 ≤ length out.old }
     ensures { some (result, out.new) ≡ placed out.old at (standing_words model.model_id (told_verdict verdict) model.quality_bps (told_decision asked.decision) highest ++ searched_words (eqb model.enabled 0) (told_boundaries asked)) }
 {
-    let quality = model.quality_bps;
     let next = put_standing(
         out,
         at,
         model.model_id,
         verdict,
-        quality,
+        model.quality_bps,
         asked.decision,
         highest,
     );
@@ -156,11 +149,10 @@ fn put_listed(
     requires bank_bound { records_in (length bank.now) ≤ max_catalog_models }
     ensures { some (result, out.new) ≡ placed out.old at (listed_words policy input (listed_of bank.now) id (first_listed id (listed_of bank.now)) (told_boundaries asked)) }
 {
-    let found = first_listed(bank, id);
-    let Found::At(place) = found else {
+    let Some(place) = first_listed(bank, id) else {
         return at;
     };
-    let model = model_at(bank, place as usize);
+    let model = model_at(bank, usize::from(place));
     put_model(out, at, policy, input, bank, model, asked)
 }
 
@@ -187,20 +179,22 @@ fn put_answer(out: &mut [u8], input: &[u8], id: u32) -> usize
     requires { words_bytes ≤ length out.old }
     ensures { some (result, out.new) ≡ placed out.old 0 (ask_words id input.now) }
 {
-    let outcome = ask_outcome(input, id);
-    if let Outcome::Refused(refusal) = outcome {
-        return put_refused_words(out, id, refusal);
+    match asked(input, id) {
+        Ok(asked) => put_report(
+            out,
+            policy_in(input),
+            request_in(input),
+            bank_in(input),
+            id,
+            asked,
+        ),
+        Err(refusal) => put_refused_words(out, id, refusal),
     }
-    let bank = bank_in(input);
-    let policy = policy_in(input);
-    let request = request_in(input);
-    let asked = what_would_win(policy, bank, request, id);
-    put_report(out, policy, request, bank, id, asked)
 }
 
 // What `ask ID words` prints for an input, at the start of a buffer, whose other bytes stay. Bad input, or an id that isn't listed, gets
 // the line of its refusal and a sentence about it. Refused, with nothing written: 4.
-pub fn ask_words(input: &[u8], id: u32, out: &mut [u8]) -> Written
+pub fn ask_words(input: &[u8], id: u32, out: &mut [u8]) -> Result<usize, Refusal>
     ensures { (told_written result ≡ print_of (ask_words id input.now) (length out.old)) × (out.new ≡ print_buffer (ask_words id input.now) out.old) × (length (ask_words id input.now) ≤ words_bytes) }
 {
     let mut space = [0u8; WORDS_BYTES];

@@ -1,5 +1,5 @@
 // For other crates: what a failed gate measured, and the count that a rejected model raises, which must have room.
-// A gate is its number, 1 to 8, as in `gates`.
+// A gate is its number, 1 to 8, as in `gates` and in the bytes that tell it.
 #![tactic(auto)]
 
 ghost use Rattle.std.specs.Prelude.{◌≡◌, ◌<◌};
@@ -40,42 +40,39 @@ pub fn gate_detail(model: KernelModel, input: KernelInput, gate: u8) -> GateDeta
 // `bump`: the counts with the one that a failed gate raises one higher. Gates 5 and 6 share the provider's.
 // No count can overflow where the nine together are below 65,535; a number that is no gate's raises none.
 #[tactic(auto, unfolding(rules::specs::Count::raised_by, rules::specs::Count::gate_reason, rules::specs::Choice::equal))]
-pub fn raised(counts: RejectionHistogram, gate: u8) -> RejectionHistogram
+pub fn raised(mut counts: RejectionHistogram, gate: u8) -> RejectionHistogram
     requires { total counts < max_catalog_models }
     ensures { result ≡ raised_by counts (gate_reason gate) }
 {
-    let mut next = counts;
     match gate {
-        1 => next.disabled = counts.disabled + 1,
-        2 => next.quality = counts.quality + 1,
-        3 => next.latency = counts.latency + 1,
-        4 => next.capability = counts.capability + 1,
-        5..=6 => next.provider = counts.provider + 1,
-        7 => next.region = counts.region + 1,
-        8 => next.risk_ceiling = counts.risk_ceiling + 1,
+        1 => counts.disabled += 1,
+        2 => counts.quality += 1,
+        3 => counts.latency += 1,
+        4 => counts.capability += 1,
+        5..=6 => counts.provider += 1,
+        7 => counts.region += 1,
+        8 => counts.risk_ceiling += 1,
         _ => {}
     }
-    next
+    counts
 }
 
 // The counts with one more record that is over its budget.
 #[tactic(auto, unfolding(rules::specs::Count::raised_by, rules::specs::Choice::equal))]
-pub fn raised_for_budget(counts: RejectionHistogram) -> RejectionHistogram
+pub fn raised_for_budget(mut counts: RejectionHistogram) -> RejectionHistogram
     requires { total counts < max_catalog_models }
     ensures { result ≡ raised_by counts 108 }
 {
-    let mut next = counts;
-    next.budget = counts.budget + 1;
-    next
+    counts.budget += 1;
+    counts
 }
 
 // The counts with one more record that has no positive utility.
 #[tactic(auto, unfolding(rules::specs::Count::raised_by, rules::specs::Choice::equal))]
-pub fn raised_for_utility(counts: RejectionHistogram) -> RejectionHistogram
+pub fn raised_for_utility(mut counts: RejectionHistogram) -> RejectionHistogram
     requires { total counts < max_catalog_models }
     ensures { result ≡ raised_by counts 109 }
 {
-    let mut next = counts;
-    next.utility = counts.utility + 1;
-    next
+    counts.utility += 1;
+    counts
 }

@@ -1,30 +1,24 @@
 // One entry of the list. Its first byte says who told the answer: 1 the Rust, 2 a second reading of the rules, 3 both. Then the call's number,
 // the id, the place or the count that it takes (8 bytes), five lengths of two bytes, the policy, the request, the row of them or the record that is
 // offered, the bytes that are read, the word that is owed, and the policy, the space and the buffer as they are owed after the call.
-ghost use Rattle.std.specs.Prelude.{◌+◌, ◌≤◌, length};
+ghost use Rattle.std.specs.Prelude.{◌≡◌, ◌+◌, ◌<◌, ◌≤◌, length, IfSome};
 
 use crate::calls::{called, changes_bank};
 use endian::{u16_at, u32_at, u64_at};
-use splice::put_bytes;
 
-// One entry: its size, 0 where the list is cut short, and whether the answer is the one that is owed.
+// One entry: its size, who told its answer, and whether the call answers so.
 #[derive(Clone, Copy)]
 pub(crate) struct Entry {
     pub size: usize,
+    pub by: u8,
     pub same: bool,
-}
-
-fn cut() -> Entry
-    ensures { result.size ≤ 0 }
-{
-    Entry {
-        size: 0,
-        same: false,
-    }
 }
 
 // The bytes before the policy.
 const HEADER: usize = 20;
+
+// The bytes of a word.
+const WORD: usize = 8;
 
 // The most bytes of a policy, a space or a buffer, and what fills them before the call.
 const ROOM: usize = 1_024;
@@ -46,163 +40,92 @@ fn parts_of(list: &[u8]) -> Parts
     ensures order { (20 + result.policy ≤ result.request) × (result.request ≤ result.bytes) × (result.bytes ≤ 196625) }
     ensures widths { (result.policy ≤ 65535) × (result.space ≤ 65535) × (result.buffer ≤ 65535) }
 {
-    let policy = u16_at(list, 10) as usize;
-    let request = HEADER + policy + u16_at(list, 12) as usize;
-    let bytes = request + u16_at(list, 14) as usize;
-    let space = u16_at(list, 16) as usize;
-    let buffer = u16_at(list, 18) as usize;
+    let policy = usize::from(u16_at(list, 10));
+    let request = HEADER + policy + usize::from(u16_at(list, 12));
     Parts {
         policy,
         request,
-        bytes,
-        space,
-        buffer,
+        bytes: request + usize::from(u16_at(list, 14)),
+        space: usize::from(u16_at(list, 16)),
+        buffer: usize::from(u16_at(list, 18)),
     }
 }
 
-// The call on the first bytes of a policy's room, of a space and of a buffer.
-fn call_within(
-    call: u8,
-    id: u32,
-    place: u64,
-    policy: &mut [u8],
-    numbers: usize,
-    request: &[u8],
-    bytes: &[u8],
-    space: &mut [u8],
-    room: usize,
-    buffer: &mut [u8],
-    out: usize,
-) -> u64
-    requires { (numbers ≤ length policy.old) × (room ≤ length space.old) × (out ≤ length buffer.old) }
+// Whether the word and the policy, the space and the buffer after a call are those that stand at the front of some bytes.
+fn owed(told: &[u8], word: Option<u64>, policy: &[u8], space: &[u8], buffer: &[u8]) -> bool
+    requires { 8 + length policy.now + length space.now + length buffer.now ≤ length told.now }
 {
-    called(
-        call,
-        id,
-        place,
-        &mut policy[0..numbers],
-        request,
-        bytes,
-        &mut space[0..room],
-        &mut buffer[0..out],
-    )
+    let (changed, rest) = told[WORD..].split_at(policy.len());
+    let (filled, rest) = rest.split_at(space.len());
+    Some(u64_at(told, 0)) == word
+        && changed == policy
+        && filled == space
+        && &rest[..buffer.len()] == buffer
 }
 
-// Whether the word and the first bytes of the three rooms are those that stand at a place of the list.
-fn owed(
-    list: &[u8],
-    told: usize,
-    word: u64,
-    policy: &[u8],
-    numbers: usize,
-    space: &[u8],
-    room: usize,
-    buffer: &[u8],
-    out: usize,
-) -> bool
-    requires { (numbers ≤ length policy.now) × (room ≤ length space.now) × (out ≤ length buffer.now) × (told + 8 + numbers + room + out ≤ length list.now) }
+// Whether a call answers as it owes: the word, and every byte of the policy, of the space and of the buffer.
+fn replays(list: &[u8], parts: Parts, policy: &mut [u8], space: &mut [u8]) -> bool
+    requires { (20 + parts.policy ≤ parts.request) × (parts.request ≤ parts.bytes) × (length policy.old ≡ parts.policy) × (length space.old ≡ parts.space) × (parts.buffer ≤ 1024) × (parts.bytes + 8 + parts.policy + parts.space + parts.buffer ≤ length list.now) }
 {
-    let changed = told + 8;
-    let filled = changed + numbers;
-    let written = filled + room;
-    if u64_at(list, told) != word {
-        return false;
-    }
-    if !check::same(&list[changed..filled], &policy[0..numbers]) {
-        return false;
-    }
-    if !check::same(&list[filled..written], &space[0..room]) {
-        return false;
-    }
-    check::same(&list[written..written + out], &buffer[0..out])
-}
-
-// Whether a call answers as it owes: the word, and every byte of the policy, of the space and of the buffer. The policy's room begins with a copy
-// of it, and so does the space with one of a bank that is changed.
-fn replays(
-    list: &[u8],
-    numbers: usize,
-    request: usize,
-    told: usize,
-    policy: &mut [u8],
-    space: &mut [u8],
-    room: usize,
-    out: usize,
-) -> bool
-    requires { (20 + numbers ≤ request) × (request ≤ told) × (numbers ≤ length policy.old) × (room ≤ length space.old) × (out ≤ 1024) × (told + 8 + numbers + room + out ≤ length list.now) }
-{
-    let mut buffer = [FILL; ROOM];
-    let word = call_within(
+    let mut room = [FILL; ROOM];
+    let buffer = &mut room[..parts.buffer];
+    let word = called(
         list[1],
         u32_at(list, 2),
         u64_at(list, 2),
         policy,
-        numbers,
-        &list[HEADER + numbers..request],
-        &list[request..told],
+        &list[HEADER + parts.policy..parts.request],
+        &list[parts.request..parts.bytes],
         space,
-        room,
-        &mut buffer,
-        out,
+        buffer,
     );
-    owed(list, told, word, policy, numbers, space, room, &buffer, out)
+    owed(&list[parts.bytes..], word, policy, space, buffer)
 }
 
 // A copy of a bank that is changed, in the space; false where the space is of another length, since a bank is as long before as after.
-fn bank_lent(call: u8, bytes: &[u8], space: &mut [u8], room: usize) -> bool
-    requires { room ≤ length space.old }
-{
+fn bank_lent(call: u8, bytes: &[u8], space: &mut [u8]) -> bool {
     if !changes_bank(call) {
         return true;
     }
-    if bytes.len() != room {
+    if bytes.len() != space.len() {
         return false;
     }
-    put_bytes(space, 0, bytes);
+    space.copy_from_slice(bytes);
     true
 }
 
-// Whether an entry with these parts is answered as it owes.
+// Whether an entry with these parts is answered as it owes. The policy's room begins with a copy of it, and so does the space with one of a bank that
+// is changed.
 fn replayed(list: &[u8], parts: Parts) -> bool
     requires { (parts.policy ≤ 1024) × (20 + parts.policy ≤ parts.request) × (parts.request ≤ parts.bytes) × (parts.space ≤ 1024) × (parts.buffer ≤ 1024) × (parts.bytes + 8 + parts.policy + parts.space + parts.buffer ≤ length list.now) }
 {
-    let numbers = parts.policy;
-    let request = parts.request;
-    let told = parts.bytes;
-    let room = parts.space;
-    let mut policy = [FILL; ROOM];
-    let mut space = [FILL; ROOM];
-    put_bytes(&mut policy, 0, &list[HEADER..HEADER + numbers]);
-    if !bank_lent(list[1], &list[request..told], &mut space, room) {
-        return false;
-    }
-    replays(
-        list,
-        numbers,
-        request,
-        told,
-        &mut policy,
-        &mut space,
-        room,
-        parts.buffer,
-    )
+    let mut policy_room = [FILL; ROOM];
+    let policy = &mut policy_room[..parts.policy];
+    policy.copy_from_slice(&list[HEADER..HEADER + parts.policy]);
+    let mut space_room = [FILL; ROOM];
+    let space = &mut space_room[..parts.space];
+    bank_lent(list[1], &list[parts.request..parts.bytes], space)
+        && replays(list, parts, policy, space)
 }
 
-// The first entry of what is left of the list.
-pub(crate) fn first(list: &[u8]) -> Entry
-    ensures { result.size ≤ length list.now }
+// The first entry of what is left of the list; none where it is cut short.
+pub(crate) fn first(list: &[u8]) -> Option<Entry>
+    ensures { IfSome result (λ entry. (0 < entry.size) × (entry.size ≤ length list.now)) }
 {
     if list.len() < HEADER {
-        return cut();
+        return None;
     }
     let parts = parts_of(list);
     if ROOM < parts.policy || ROOM < parts.space || ROOM < parts.buffer {
-        return cut();
+        return None;
     }
-    let size = parts.bytes + 8 + parts.policy + parts.space + parts.buffer;
+    let size = parts.bytes + WORD + parts.policy + parts.space + parts.buffer;
     if list.len() < size {
-        return cut();
+        return None;
     }
-    let same = replayed(list, parts);
-    Entry { size, same }
+    Some(Entry {
+        size,
+        by: list[0],
+        same: replayed(list, parts),
+    })
 }

@@ -3,8 +3,10 @@ use Rattle.rules.proofs.Kit.{ℕ, ◌/◌, ◌%◌, ◌≤◌, ◌<◌, ◌≡�
 use Rattle.rules.proofs.Kit.{ltb-false, not-false, lt-ltb, le-ltb, eqb, ltb, length}
 use Rattle.rules.specs.{Refused.Fault, Refused.fault, Refused.no_fault, Refused.Faults, Refused.refuse_if, Refused.first_fault, Refused.or_else}
 use Rattle.rules.specs.{Refused.unless, Refused.told_refusal, Refused.told_outcome, Refused.length_faults, Refused.room_faults}
-use Rattle.rules.specs.{declared.refusal.Refusal.Refusal, declared.refusal.Refusal.TheVariants.NoRoom, declared.refusal.Outcome.Outcome}
-use Rattle.rules.specs.{declared.refusal.Outcome.TheVariants.Answered, declared.refusal.Outcome.TheVariants.Refused, Limits.record_bytes}
+use Rattle.rules.specs.{declared.refusal.Refusal.Refusal, declared.refusal.Refusal.TheVariants.NoRoom, Limits.record_bytes}
+use Rattle.std.specs.Prelude.{Result, Ok, Err, ⊤, IsErrAnd}
+use Rattle.std.proofs.lemmas.Result.{err_from_is_err_and}
+use Rattle.rules.specs.{Refused.Answer, Refused.refused, Refused.answered, Refused.told_answer}
 use Rattle.rules.specs.{Records.listed_of, Trust.reserved_faults, Trust.flag_faults, Trust.early_faults}
 
 -- A fault is not none
@@ -43,28 +45,53 @@ unless_none fs told a e = rw e
 -- ---- an outcome that tells the first fault
 
 -- WHERE IT ANSWERS, there is none: the answer stands, and what is tested after it decides
-pub none_told : {o : Outcome} (fs : Faults) → o ≡ Answered → told_outcome o ≡ first_fault fs → fs ≡ []
+pub none_told : {o : Result ⊤ Refusal} (fs : Faults) → o ≡ Ok tt → told_outcome o ≡ first_fault fs → fs ≡ []
 unfolding told_outcome
 none_told fs e h = none_found fs (sym h ∙ ap told_outcome e)
 
-pub unless-passed : {A : Type 0} {o : Outcome} (fs : Faults) (told : Fault → A) (a : A) → o ≡ Answered → told_outcome o ≡ first_fault fs → unless fs told a ≡ a
+pub unless-passed : {A : Type 0} {o : Result ⊤ Refusal} (fs : Faults) (told : Fault → A) (a : A) → o ≡ Ok tt → told_outcome o ≡ first_fault fs → unless fs told a ≡ a
 unless-passed fs told a e h = unless_none fs told a (none_told fs e h)
 
-pub append-passed : {o : Outcome} (fs gs : Faults) → o ≡ Answered → told_outcome o ≡ first_fault fs → first_fault (fs ++ gs) ≡ first_fault gs
+pub append-passed : {o : Result ⊤ Refusal} (fs gs : Faults) → o ≡ Ok tt → told_outcome o ≡ first_fault fs → first_fault (fs ++ gs) ≡ first_fault gs
 append-passed fs gs e h = rw (none_told fs e h)
 
 -- WHERE IT REFUSES, its refusal is the first, whatever is tested after it
-pub unless_refused : {A : Type 0} {o : Outcome} {r : Refusal} (fs : Faults) (told : Fault → A) (a : A) → o ≡ Refused r → told_outcome o ≡ first_fault fs
+pub unless_refused : {A : Type 0} {o : Result ⊤ Refusal} {r : Refusal} (fs : Faults) (told : Fault → A) (a : A) → o ≡ Err r → told_outcome o ≡ first_fault fs
     → unless fs told a ≡ told (told_refusal r)
 unfolding first_fault told_outcome
 unless_refused [] told a e h = let k = sym (ap told_outcome e) ∙ h in cc
 unless_refused (f ∷ fs) told a e h = let k = sym (ap told_outcome e) ∙ h in cc
 
-pub append_refused : {o : Outcome} {r : Refusal} (fs gs : Faults) → o ≡ Refused r → told_outcome o ≡ first_fault fs
-    → told_outcome (Refused r) ≡ first_fault (fs ++ gs)
+pub append_refused : {o : Result ⊤ Refusal} {r : Refusal} (fs gs : Faults) → o ≡ Err r → told_outcome o ≡ first_fault fs
+    → told_outcome (Err r) ≡ first_fault (fs ++ gs)
 unfolding first_fault told_outcome
 append_refused [] gs e h = let k = sym (ap told_outcome e) ∙ h in cc
 append_refused (f ∷ fs) gs e h = sym (ap told_outcome e) ∙ h
+
+-- WHAT A `?` HANDS ON is the refusal that it met
+pub exit_is : {A : Type 0} (r : Result A Refusal) (k : Refusal) → IsErrAnd r (λ e. e ≡ k) → r ≡ Err k
+exit_is r k h = let p = err_from_is_err_and r h in p.1 ∙ ap Err p.2
+
+-- of a test: the first fault of a list that goes on
+pub exit_outcome : (r : Result ⊤ Refusal) (k : Refusal) (fs gs : Faults) → IsErrAnd r (λ e. e ≡ k) → told_outcome (Err k) ≡ first_fault fs
+    → told_outcome r ≡ first_fault (fs ++ gs)
+exit_outcome r k fs gs h told = ap told_outcome (exit_is r k h) ∙ append_refused fs gs refl told
+
+-- of a call: what the first fault is told as
+pub exit_answer : {A B : Type 0} (told : A → B) (r : Result A Refusal) (k : Refusal) (fs : Faults) (b : Answer B) → IsErrAnd r (λ e. e ≡ k)
+    → told_outcome (Err k) ≡ first_fault fs → told_answer told r ≡ unless fs refused b
+exit_answer told r k fs b h first = ap (told_answer told) (exit_is r k h) ∙ sym (unless_refused fs refused b refl first)
+
+-- WHAT GOES ON AFTER A `?` has met no fault
+pub passed : {u : ⊤} (fs : Faults) → told_outcome (Ok u) ≡ first_fault fs → fs ≡ []
+passed fs h = none_told fs refl h
+
+pub passed_answer : {B : Type 0} {u : ⊤} (fs : Faults) (a b : B) → told_outcome (Ok u) ≡ first_fault fs → a ≡ b → answered a ≡ unless fs refused (answered b)
+passed_answer fs a b h e = ap answered e ∙ sym (unless-passed fs refused (answered b) refl h)
+
+-- A call that is handed on whole, after tests that passed
+pub passed_call : {A : Type 0} {u : ⊤} (fs : Faults) (a b : Answer A) → told_outcome (Ok u) ≡ first_fault fs → a ≡ b → a ≡ unless fs refused b
+passed_call fs a b h e = e ∙ sym (unless-passed fs refused b refl h)
 
 -- OF TWO, ONE AFTER THE OTHER, the first that refuses tells the first fault of both lists
 pub first_joined : (fs gs : Faults) → first_fault (fs ++ gs) ≡ or_else (first_fault fs) (first_fault gs)
@@ -86,7 +113,7 @@ pub room_enough : (needed room : ℕ) → needed ≤ room → room_faults needed
 unfolding room_faults
 room_enough needed room h = rw (le-ltb room needed h)
 
-pub room_short : (needed room : ℕ) → room < needed → told_outcome (Refused NoRoom) ≡ first_fault (room_faults needed room)
+pub room_short : (needed room : ℕ) → room < needed → told_outcome (Err NoRoom) ≡ first_fault (room_faults needed room)
 unfolding room_faults told_outcome first_fault
 room_short needed room h = rw (lt-ltb room needed h)
 
@@ -99,10 +126,10 @@ pub few_records : (n : ℕ) → length_faults n ≡ [] → n / 47 ≤ 65535
 unfolding length_faults
 few_records n e = below_none 65535 (n / 47) (fault 2) (none_after (refuse_if (not (eqb (n % 47) 0)) (fault 1)) _ e)
 
-pub bank_room : {o : Outcome} (n : ℕ) → o ≡ Answered → told_outcome o ≡ first_fault (length_faults n) → n / 47 ≤ 65535
+pub bank_room : {o : Result ⊤ Refusal} (n : ℕ) → o ≡ Ok tt → told_outcome o ≡ first_fault (length_faults n) → n / 47 ≤ 65535
 bank_room n e h = few_records n (none_told _ e h)
 
-pub checked_room : {o : Outcome} (n : ℕ) (gs : Faults) → o ≡ Answered → told_outcome o ≡ first_fault (length_faults n ++ gs) → n / 47 ≤ 65535
+pub checked_room : {o : Result ⊤ Refusal} (n : ℕ) (gs : Faults) → o ≡ Ok tt → told_outcome o ≡ first_fault (length_faults n ++ gs) → n / 47 ≤ 65535
 checked_room n gs e h = few_records n (none_first _ gs (none_told _ e h))
 
 -- WHAT IS TESTED BEFORE THE ORDERING passes only banks of whole records

@@ -1,7 +1,7 @@
 -- Laws of the halving, over the side and over any test p: its steps, what a search answers by cases, and how many passes it takes. Assumes nothing.
 use Rattle.rules.proofs.Kit.{◌≡◌, refl, sym, ap, ◌∙◌, Bool, true, false, ℕ, zero, suc, ◌+◌, ◌-◌, ◌/◌, ◌^◌, ◌≤◌, ◌<◌, two-pow-succ, dec_lt, arith, lt-ltb}
 use Rattle.rules.proofs.Kit.{le-ltb}
-use Rattle.rules.specs.{declared.boundary.Bound.Bound, declared.boundary.Bound.TheVariants.At, declared.boundary.Bound.TheVariants.Nothing}
+use Rattle.rules.specs.{declared.boundary.Bound.Bound, Halving.At, Halving.Nothing}
 use Rattle.rules.specs.{Halving.Side, Halving.Lowest, Halving.Highest, Halving.first_tried, Halving.middle, Halving.kept_low, Halving.kept_high}
 use Rattle.rules.specs.{Halving.Halved, Halving.one_pass, Halving.halve_in, Halving.halve, Halving.passes_of, Halving.search_of, Halving.far_end}
 use Rattle.rules.specs.{Halving.later_by, Halving.search_after_far_end, Levers.plain}
@@ -86,6 +86,13 @@ module _ (s : Side) (p : ℕ → Bool) where
           omega (arith, ap (λ (r : Halved). r.passes) (halve-step low high (p m) l refl))
       go (no l) ih = omega (arith, ap (λ (r : Halved). r.passes) (halve-end low high (omega arith)))
 
+-- nothing found is no boundary, and a boundary is one number
+none_found : {b n k : ℕ} → Nothing k ≡ At b n → ⊥
+none_found e = let z : ◌≡◌ {A = ℕ} 0 1 = cc (ap (λ (r : Bound). r.boundary) e) in omega arith
+
+at-boundary : {b c n k : ℕ} → At b n ≡ At c k → b ≡ c
+at-boundary e = cc (ap (λ (r : Bound). r.boundary) e)
+
 module _ (s : Side) (p : ℕ → Bool) where
   -- what a search answers, by cases
   pub search-empty : (low high : ℕ) → high < low → search_of s p low high ≡ Nothing 0
@@ -108,9 +115,9 @@ module _ (s : Side) (p : ℕ → Bool) where
     where
       go : Dec (high < low) → Truth (p (first_tried s low high))
           → (low ≤ high) × (p (first_tried s low high) ≡ true) × (b ≡ (halve s p low high).at) × (n ≡ (halve s p low high).passes + 1)
-      go (yes h) t = let z : ◌≡◌ {A = ℕ} 0 1 = cc (search-empty low high h) in absurd (omega arith)
-      go (no h) (is q) = let l : low ≤ high = omega arith in let y = search-yes low high l q in (l, q, (cc), (cc))
-      go (no h) (isnt q) = let l : low ≤ high = omega arith in let z : ◌≡◌ {A = ℕ} 0 1 = cc (search_no low high l q) in absurd (omega arith)
+      go (yes h) t = absurd (none_found (sym (search-empty low high h) ∙ e))
+      go (no h) (is q) = let l : low ≤ high = omega arith in let y = search-yes low high l q in (l, q, at-boundary (sym e ∙ y), ap passes_of (sym e ∙ y))
+      go (no h) (isnt q) = absurd (none_found (sym (search_no low high (omega arith) q) ∙ e))
 
   -- at most 1 + k passes where the width is below 2 ^ k
   pub search-passes : (k low high b n : ℕ) → high < low + 2 ^ k → search_of s p low high ≡ At b n → n ≤ 1 + k
@@ -118,16 +125,14 @@ module _ (s : Side) (p : ℕ → Bool) where
 
   -- the same of any answer, also where nothing is found
   pub few : (k low high : ℕ) {r : Bound} → r ≡ search_of s p low high → high < low + 2 ^ k → passes_of r ≤ 1 + k
-  few k low high {r} e w = go r e
+  few k low high {r} e w = go (dec_lt high low) (truth (p (first_tried s low high)))
     where
-      go : (r : Bound) → r ≡ search_of s p low high → passes_of r ≤ 1 + k
-      go (At b n) e = search-passes k low high b n w (sym e)
-      go (Nothing n) e = none (dec_lt high low) (truth (p (first_tried s low high)))
-        where
-          none : Dec (high < low) → Truth (p (first_tried s low high)) → n ≤ 1 + k
-          none (yes h) t = let z : n ≡ 0 = cc (search-empty low high h) in omega arith
-          none (no h) (is q) = let z : ◌≡◌ {A = ℕ} 0 1 = cc (search-yes low high (omega arith) q) in absurd (omega arith)
-          none (no h) (isnt q) = let z : n ≡ 1 = cc (search_no low high (omega arith) q) in omega arith
+      go : Dec (high < low) → Truth (p (first_tried s low high)) → passes_of r ≤ 1 + k
+      go (yes h) t = omega (arith, ap passes_of (e ∙ search-empty low high h))
+      go (no h) (is q) =
+          let y = search-yes low high (omega arith) q in
+          omega (arith, ap passes_of (e ∙ y), search-passes k low high _ _ w y)
+      go (no h) (isnt q) = omega (arith, ap passes_of (e ∙ search_no low high (omega arith) q))
 
   -- what a margin answers, by cases
   pub margin-none : (low high : ℕ) → p (far_end s low high) ≡ true → search_after_far_end s p low high ≡ Nothing 1
@@ -142,15 +147,10 @@ module _ (s : Side) (p : ℕ → Bool) where
   pub far-few : (k low high : ℕ) {r : Bound} → r ≡ search_after_far_end s p low high → high < low + 2 ^ k → passes_of r ≤ 2 + k
   far-few k low high {r} e w = go (truth (p (far_end s low high)))
     where
-      later : (b : Bound) → passes_of (later_by 1 b) ≡ passes_of b + 1
-      later (At b n) = refl
-      later (Nothing n) = refl
-
       go : Truth (p (far_end s low high)) → passes_of r ≤ 2 + k
       go (is f) = omega (arith, ap passes_of (e ∙ margin-none low high f))
-      go (isnt f) = omega (arith, ap passes_of (e ∙ margin-some low high f), later (search_of s p low high), few k low high {r = search_of s p low high} refl w)
+      go (isnt f) = omega (arith, ap passes_of (e ∙ margin-some low high f), few k low high {r = search_of s p low high} refl w)
 
 -- A LEVER'S PASSES ARE ITS SEARCH'S
 pub plain_passes : (lever current : ℕ) (r : Bound) → (plain lever current r).passes ≡ passes_of r
-plain_passes lever current (At b n) = refl
-plain_passes lever current (Nothing n) = refl
+plain_passes lever current r = refl

@@ -26,4 +26,3 @@ pub mod KeyRows
 pub mod OnceRows
 pub mod AllowanceRows
 pub mod BoundaryRows
-pub mod Arms

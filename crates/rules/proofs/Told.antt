@@ -1,24 +1,18 @@
 -- What document 01 tells of an answer determines the answer: every `told..` of specs/Numbers.antt has a way back. Assumes nothing.
-use Rattle.rules.proofs.Kit.{ℕ, ◌-◌, ◌≡◌, refl, sym, ap, ap₂, ◌∙◌, List, [], ◌∷◌, map, Option, none, some, ℤ, get_or}
-use Rattle.rules.specs.{Refused.Fault, Refused.told_refusal, Refused.told_outcome, Refused.told_trusted, Refused.Answer, Refused.refused, Refused.answered}
+use Rattle.rules.proofs.Kit.{ℕ, ◌-◌, ◌≡◌, refl, sym, ap, ap₂, ◌∙◌, List, [], ◌∷◌, map, Option, none, some, get_or}
+use Rattle.rules.specs.{Refused.Fault, Refused.told_refusal, Refused.told_outcome, Refused.Answer, Refused.refused, Refused.answered, Refused.told_answer}
 use Rattle.rules.specs.{Numbers.action_no, Numbers.reason_no, Numbers.Decision, Numbers.told_decision, Numbers.told_prescribed, Numbers.DecisionAndTrace}
-use Rattle.rules.specs.{Numbers.told_traced, Numbers.told_utility, Numbers.told_found, Numbers.told_next, Numbers.Entry, Numbers.told_cost}
+use Rattle.rules.specs.{Numbers.told_traced, Numbers.told_utility, Numbers.told_found, Numbers.told_next, Numbers.Entry, Numbers.told_option}
 use Rattle.rules.specs.{Numbers.told_entry}
-use Rattle.rules.specs.{Numbers.Boundary, Numbers.told_boundaries, declared.refusal.Refusal.Refusal, declared.refusal.Outcome.Outcome}
-use Rattle.rules.specs.{declared.refusal.Trusted.Trusted, declared.decision.KernelAction.KernelAction, declared.decision.KernelReason.KernelReason}
-use Rattle.rules.specs.{declared.decision.KernelDecision.KernelDecision, declared.decision.Prescribed.Prescribed, declared.decision.Traced.Traced}
-use Rattle.rules.specs.{declared.decision.UtilityFound.UtilityFound, declared.decision.Found.Found, declared.verdict.NextEligible.NextEligible}
-use Rattle.rules.specs.{declared.boundary.BoundaryCost.BoundaryCost, declared.boundary.Requirement.Requirement, declared.boundary.Boundaries.Boundaries}
+use Rattle.rules.specs.{Numbers.Boundary, Numbers.told_boundaries, Numbers.told_trace, Levers.told_bounds, declared.refusal.Refusal.Refusal}
+use Rattle.rules.specs.{declared.decision.KernelAction.KernelAction, declared.decision.KernelReason.KernelReason}
+use Rattle.rules.specs.{declared.decision.KernelDecision.KernelDecision, declared.decision.DecisionTrace.DecisionTrace}
+use Rattle.rules.specs.{declared.boundary.Requirement.Requirement, declared.boundary.Boundaries.Boundaries}
 use Rattle.rules.specs.declared.refusal.Refusal.TheVariants as refusal
-use Rattle.rules.specs.declared.refusal.Outcome.TheVariants as outcome
 use Rattle.rules.specs.declared.decision.KernelAction.TheVariants as action
 use Rattle.rules.specs.declared.decision.KernelReason.TheVariants as reason
-use Rattle.rules.specs.declared.decision.Prescribed.TheVariants as prescribed
-use Rattle.rules.specs.declared.decision.Traced.TheVariants as traced
-use Rattle.rules.specs.declared.decision.UtilityFound.TheVariants as utility
-use Rattle.rules.specs.declared.decision.Found.TheVariants as found
-use Rattle.rules.specs.declared.verdict.NextEligible.TheVariants as next
-use Rattle.rules.specs.declared.boundary.BoundaryCost.TheVariants as cost
+use Rattle.std.specs.Prelude.{⊤, Result, Ok, Err, Some, None}
+use Rattle.std.specs.Prelude as declared
 
 -- ANY TWO PERMITTED ANSWERS ARE EQUAL: where what is told has a way back, two answers that are told alike are one
 pub one_answer : {A B : Type 0} (told : A → B) (back : B → A) → ((a : A) → back (told a) ≡ a) → (rule : B) (r s : A) → told r ≡ rule → told s ≡ rule → r ≡ s
@@ -96,14 +90,32 @@ refusal_back refusal.EpochSpent = refl
 refusal_back refusal.NoFreeSlot = refl
 refusal_back refusal.SlotNotClear = refl
 
-abbrev pub outcome_from : Option Fault → Outcome
-outcome_from none = outcome.Answered
-outcome_from (some f) = outcome.Refused (refusal_from f)
+abbrev pub outcome_from : Option Fault → Result ⊤ Refusal
+outcome_from none = Ok tt
+outcome_from (some f) = Err (refusal_from f)
 
-pub outcome_back : (o : Outcome) → outcome_from (told_outcome o) ≡ o
+pub outcome_back : (o : Result ⊤ Refusal) → outcome_from (told_outcome o) ≡ o
 unfolding told_outcome
-outcome_back outcome.Answered = refl
-outcome_back (outcome.Refused r) = ap outcome.Refused (refusal_back r)
+outcome_back (Ok _) = refl
+outcome_back (Err r) = ap Err (refusal_back r)
+
+-- An answer, where what stands in it has a way back
+abbrev pub answer_from : {A B : Type 0} → (B → A) → Answer B → Result A Refusal
+answer_from back (refused f) = Err (refusal_from f)
+answer_from back (answered b) = Ok (back b)
+
+pub answer_back : {A B : Type 0} (told : A → B) (back : B → A) → ((a : A) → back (told a) ≡ a) → (r : Result A Refusal)
+    → answer_from back (told_answer told r) ≡ r
+answer_back told back way (Ok a) = ap Ok (way a)
+answer_back told back way (Err r) = ap Err (refusal_back r)
+
+abbrev pub option_from : {A : Type 0} → Option A → declared.Option A
+option_from none = None
+option_from (some a) = Some a
+
+pub option_back : {A : Type 0} (o : declared.Option A) → option_from (told_option o) ≡ o
+option_back None = refl
+option_back (Some a) = refl
 
 -- ---- decisions
 
@@ -172,63 +184,13 @@ decision_from d =
 pub decision_back : (d : KernelDecision) → decision_from (told_decision d) ≡ d
 decision_back d = rw (action_back d.action, reason_back d.reason)
 
-abbrev pub prescribed_from : Answer Decision → Prescribed
-prescribed_from (refused f) = prescribed.Refused (refusal_from f)
-prescribed_from (answered d) = prescribed.Decided (decision_from d)
+abbrev pub traced_from : DecisionAndTrace → KernelDecision × DecisionTrace
+traced_from a = (decision_from a.decision, a.trace)
 
-pub prescribed_back : (a : Prescribed) → prescribed_from (told_prescribed a) ≡ a
-prescribed_back (prescribed.Refused r) = ap prescribed.Refused (refusal_back r)
-prescribed_back (prescribed.Decided d) = ap prescribed.Decided (decision_back d)
-
-abbrev pub traced_from : Answer DecisionAndTrace → Traced
-traced_from (refused f) = traced.Refused (refusal_from f)
-traced_from (answered a) = traced.Decided (decision_from a.decision) a.trace
-
-pub traced_back : (a : Traced) → traced_from (told_traced a) ≡ a
-traced_back (traced.Refused r) = ap traced.Refused (refusal_back r)
-traced_back (traced.Decided d t) = ap (λ x. traced.Decided x t) (decision_back d)
-
-abbrev pub utility_from : Answer ℤ → UtilityFound
-utility_from (refused f) = utility.Refused (refusal_from f)
-utility_from (answered u) = utility.Utility u
-
-pub utility_back : (a : UtilityFound) → utility_from (told_utility a) ≡ a
-utility_back (utility.Refused r) = ap utility.Refused (refusal_back r)
-utility_back (utility.Utility u) = refl
-
-abbrev pub found_from : Answer (Option ℕ) → Found
-found_from (refused f) = found.Refused (refusal_from f)
-found_from (answered none) = found.Nowhere
-found_from (answered (some place)) = found.At place
-
-pub found_back : (a : Found) → found_from (told_found a) ≡ a
-found_back (found.Refused r) = ap found.Refused (refusal_back r)
-found_back (found.At place) = refl
-found_back found.Nowhere = refl
-
-abbrev pub trusted_from : Option Fault → Trusted
-trusted_from f = record { outcome = outcome_from f }
-
-pub trusted_back : (t : Trusted) → trusted_from (told_trusted t) ≡ t
-trusted_back t = λ i. record { outcome = outcome_back t.outcome i }
-
-abbrev pub next_from : Option ℕ → NextEligible
-next_from none = next.NoMore
-next_from (some place) = next.At place
-
-pub next_back : (a : NextEligible) → next_from (told_next a) ≡ a
-next_back (next.At place) = refl
-next_back next.NoMore = refl
+pub traced_back : (x : KernelDecision × DecisionTrace) → traced_from (told_trace x) ≡ x
+traced_back x = ap (λ d. (d, x.1)) (decision_back x.0)
 
 -- ---- boundaries
-
-abbrev pub cost_from : Option ℕ → BoundaryCost
-cost_from none = cost.Unpriced
-cost_from (some c) = cost.Microunits c
-
-cost_back : (c : BoundaryCost) → cost_from (told_cost c) ≡ c
-cost_back cost.Unpriced = refl
-cost_back (cost.Microunits c) = refl
 
 abbrev pub entry_from : Entry → Requirement
 entry_from e =
@@ -236,11 +198,11 @@ entry_from e =
       lever = e.lever;
       current = e.current;
       boundary = e.boundary;
-      cost_at_boundary_microunits = cost_from e.cost;
+      cost_at_boundary_microunits = option_from e.cost;
     }
 
 entry_back : (r : Requirement) → entry_from (told_entry r) ≡ r
-entry_back r = rw (cost_back r.cost_at_boundary_microunits)
+entry_back r = rw (option_back r.cost_at_boundary_microunits)
 
 entries_back : (rs : List Requirement) → map entry_from (map told_entry rs) ≡ rs
 entries_back [] = refl
@@ -249,7 +211,6 @@ entries_back (r ∷ rs) = ap₂ ◌∷◌ (entry_back r) (entries_back rs)
 abbrev pub boundaries_from : Boundary → Boundaries
 boundaries_from b =
     record {
-      outcome = outcome_from b.refusal;
       model_id = b.model;
       decision = decision_from b.decision;
       blocked_by_request = b.blocked;
@@ -258,7 +219,18 @@ boundaries_from b =
 
 pub boundaries_back : (b : Boundaries) → boundaries_from (told_boundaries b) ≡ b
 boundaries_back b =
-    rw (outcome_back b.outcome, decision_back b.decision, entries_back b.levers.levers)
+    rw (decision_back b.decision, entries_back b.levers.levers)
+
+abbrev pub bounds_by : Option Fault → Boundary → Result Boundaries Refusal
+bounds_by none b = Ok (boundaries_from b)
+bounds_by (some f) b = Err (refusal_from f)
+
+abbrev pub bounds_from : Boundary → Result Boundaries Refusal
+bounds_from b = bounds_by b.refusal b
+
+pub bounds_back : (r : Result Boundaries Refusal) → bounds_from (told_bounds r) ≡ r
+bounds_back (Ok b) = ap Ok (boundaries_back b)
+bounds_back (Err r) = ap Err (refusal_back r)
 
 -- ---- one law for each type that a call answers; a call's promise is the rule that it cites
 
@@ -276,22 +248,26 @@ pub one_outcome : Determined told_outcome
 one_outcome = one_answer told_outcome outcome_from outcome_back
 
 pub one_prescribed : Determined told_prescribed
-one_prescribed = one_answer told_prescribed prescribed_from prescribed_back
+one_prescribed = one_answer told_prescribed (answer_from decision_from) (answer_back told_decision decision_from decision_back)
 
 pub one_traced : Determined told_traced
-one_traced = one_answer told_traced traced_from traced_back
+one_traced = one_answer told_traced (answer_from traced_from) (answer_back _ traced_from traced_back)
 
 pub one_utility : Determined told_utility
-one_utility = one_answer told_utility utility_from utility_back
+one_utility = one_answer told_utility (answer_from (λ u. u)) (answer_back _ (λ u. u) (λ u. refl))
 
 pub one_found : Determined told_found
-one_found = one_answer told_found found_from found_back
-
-pub one_trusted : Determined told_trusted
-one_trusted = one_answer told_trusted trusted_from trusted_back
+one_found = one_answer told_found (answer_from option_from) (answer_back told_option option_from option_back)
 
 pub one_next : Determined told_next
-one_next = one_answer told_next next_from next_back
+one_next = one_answer told_next option_from option_back
 
 pub one_boundaries : Determined told_boundaries
 one_boundaries = one_answer told_boundaries boundaries_from boundaries_back
+
+pub one_bounds : Determined told_bounds
+one_bounds = one_answer told_bounds bounds_from bounds_back
+
+-- and for what a call tells that isn't refused
+pub one_trace : Determined told_trace
+one_trace = one_answer told_trace traced_from traced_back

@@ -1,8 +1,7 @@
 -- Document 01, "Boundaries": the published halving over any test, with its passes.
-use Rattle.std.specs.Prelude.{ℕ, zero, suc, ◌+◌, ◌-◌, ◌/◌, Bool, true, false, ltb}
+use Rattle.std.specs.Prelude.{ℕ, zero, suc, ◌+◌, ◌-◌, ◌/◌, Bool, true, false, ltb, Some, None}
 use Rattle.rules.specs.Choice.{pick}
 use Rattle.rules.specs.declared.boundary.Bound.{Bound}
-use Rattle.rules.specs.declared.boundary.Bound.TheVariants.{At, Nothing}
 
 -- P3, P4. Which value is looked for
 pub data Side : Type 0 where
@@ -56,14 +55,20 @@ halve_in side wins (suc times) low high =
 abbrev pub halve : Side → (ℕ → Bool) → ℕ → ℕ → Halved
 halve side wins low high = halve_in side wins (high - low) low high
 
+-- P1. What a search answers: a boundary with the passes, or the passes alone
+abbrev pub At : ℕ → ℕ → Bound
+At b n = record { boundary = Some b; passes = n }
+
+abbrev pub Nothing : ℕ → Bound
+Nothing n = record { boundary = None; passes = n }
+
 -- P1. What it found: the end that was tried first is a pass too
 abbrev pub found_at : Halved → Bound
 found_at h = At h.at (h.passes + 1)
 
 -- P1. The passes of a search
 abbrev pub passes_of : Bound → ℕ
-passes_of (At b n) = n
-passes_of (Nothing n) = n
+passes_of found = found.passes
 
 -- P2, P3, P4. A search: nothing and no pass for an empty range; nothing and one pass where the end tried first loses
 unfoldable pub search_of : Side → (ℕ → Bool) → ℕ → ℕ → Bound
@@ -76,8 +81,7 @@ far_end Lowest low high = low
 far_end Highest low high = high
 
 abbrev pub later_by : ℕ → Bound → Bound
-later_by n (At b passes) = At b (passes + n)
-later_by n (Nothing passes) = Nothing (passes + n)
+later_by n found = record { boundary = found.boundary; passes = found.passes + n }
 
 -- M5. A search after the far end: where that wins there is no boundary
 unfoldable pub search_after_far_end : Side → (ℕ → Bool) → ℕ → ℕ → Bound

@@ -1,18 +1,19 @@
 -- Document 01, "Boundaries": the levers, what it is to win with one, and the list of those found.
-use Rattle.std.specs.Prelude.{ℕ, ◌+◌, ◌-◌, Bool, false, not, ◌&&◌, List, [], ◌∷◌, ◌++◌, eqb, length, replicate}
+use Rattle.std.specs.Prelude.{ℕ, ◌+◌, ◌-◌, Bool, false, not, ◌&&◌, List, [], ◌∷◌, ◌++◌, map, eqb, length, replicate, option_to_list, Result, Ok, Err}
 use Rattle.std.proofs.Math.Option.{Option, none, some}
 use Rattle.rules.specs.Limits.{ppm}
 use Rattle.rules.specs.Choice.{equal}
 use Rattle.rules.specs.Records.{Listed, listed}
-use Rattle.rules.specs.Refused.{Fault, no_fault}
-use Rattle.rules.specs.Numbers.{Decision, is_rejection, Entry, Boundary}
+use Rattle.rules.specs.Refused.{Fault, no_fault, told_refusal}
+use Rattle.rules.specs.Numbers.{Decision, is_rejection, Entry, Boundary, told_boundaries}
 use Rattle.rules.specs.Price.{Cost, scaled_price}
 use Rattle.rules.specs.Decide.{no_candidate, decision_with, decision_by}
 use Rattle.rules.specs.declared.records.KernelModel.{KernelModel}
 use Rattle.rules.specs.declared.records.KernelInput.{KernelInput}
 use Rattle.rules.specs.declared.records.PolicySnapshot.{PolicySnapshot}
 use Rattle.rules.specs.declared.boundary.Bound.{Bound}
-use Rattle.rules.specs.declared.boundary.Bound.TheVariants.{At, Nothing}
+use Rattle.rules.specs.declared.boundary.Boundaries.{Boundaries}
+use Rattle.rules.specs.declared.refusal.Refusal.{Refusal}
 
 -- W10. A model with the lever of a number at a value: 1 quality (W4), 2 latency (W5, F1), 3 both prices, scaled alike (W6, W8), 4 ceiling (W7),
 -- 5 enabled (W3). All else is as it is; a number that is no lever's moves nothing
@@ -65,15 +66,19 @@ pub record Sought : Type 0 where
 abbrev pub entry : ℕ → ℕ → ℕ → Option ℕ → Entry
 entry lever current boundary cost = record { lever = lever; current = current; boundary = boundary; cost = cost }
 
+-- The entry that a search gives, if it found a boundary
+abbrev pub at_boundary : (ℕ → Entry) → Bound → List Entry
+at_boundary told found = map told (option_to_list found.boundary)
+
 -- A lever that carries no cost
 abbrev pub plain : ℕ → ℕ → Bound → Sought
-plain lever current (At b n) = record { entries = entry lever current b none ∷ []; passes = n }
-plain lever current (Nothing n) = record { entries = []; passes = n }
+plain lever current found = record { entries = at_boundary (λ b. entry lever current b none) found; passes = found.passes }
 
 -- W9, P1. The price lever carries the decision's cost at its boundary, which is one pass more
 abbrev pub priced : Question → Bound → Sought
-priced a (At b n) = record { entries = entry 3 ppm b (some (decision_at a 3 b).cost) ∷ []; passes = n + 1 }
-priced a (Nothing n) = record { entries = []; passes = n }
+priced a found =
+    let entries = at_boundary (λ b. entry 3 ppm b (some (decision_at a 3 b).cost)) found in
+    record { entries = entries; passes = found.passes + length entries }
 
 abbrev pub and_then : Sought → Sought → Sought
 and_then s t = record { entries = s.entries ++ t.entries; passes = s.passes + t.passes }
@@ -105,3 +110,8 @@ no_decision = decision_with 0 0 0 3 102 no_candidate [] 0 0
 -- P6. A refusal carries no count: every other field has its one fixed value
 abbrev pub boundary_refused : Fault → Boundary
 boundary_refused f = record { refusal = some f; model = 0; decision = no_decision; blocked = false; levers = replicate 4 no_entry; count = 0; passes = 0 }
+
+-- What a boundary call tells
+abbrev pub told_bounds : Result Boundaries Refusal → Boundary
+told_bounds (Ok b) = told_boundaries b
+told_bounds (Err r) = boundary_refused (told_refusal r)

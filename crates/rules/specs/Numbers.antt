@@ -1,5 +1,6 @@
 -- Document 01, "Numbers handed back": what each case of an enum is called there.
-use Rattle.std.specs.Prelude.{ℕ, Bool, List, map, eqb, ℤ, pos}
+use Rattle.std.specs.Prelude.{ℕ, Bool, List, map, eqb, ℤ, pos, Some, None, Result}
+use Rattle.std.specs.Prelude as declared
 use Rattle.std.proofs.Math.Option.{Option, none, some}
 use Rattle.rules.specs.Choice.{equal}
 use Rattle.rules.specs.Wide.{val}
@@ -11,34 +12,13 @@ use Rattle.rules.specs.declared.decision.KernelReason.{KernelReason}
 use Rattle.rules.specs.declared.decision.KernelReason.TheVariants as reason
 use Rattle.rules.specs.declared.decision.KernelDecision.{KernelDecision}
 use Rattle.rules.specs.declared.decision.DecisionTrace.{DecisionTrace}
-use Rattle.rules.specs.declared.decision.Prescribed.{Prescribed}
-use Rattle.rules.specs.declared.decision.Prescribed.TheVariants as prescribed
-use Rattle.rules.specs.declared.decision.Traced.{Traced}
-use Rattle.rules.specs.declared.decision.Traced.TheVariants as traced
-use Rattle.rules.specs.declared.decision.UtilityFound.{UtilityFound}
-use Rattle.rules.specs.declared.decision.UtilityFound.TheVariants as utility
-use Rattle.rules.specs.declared.decision.Found.{Found}
-use Rattle.rules.specs.declared.decision.Found.TheVariants as found
-use Rattle.rules.specs.declared.forms.StoredRead.{StoredRead}
-use Rattle.rules.specs.declared.forms.StoredRead.TheVariants as stored
-use Rattle.rules.specs.declared.forms.PolicyRead.{PolicyRead}
-use Rattle.rules.specs.declared.forms.PolicyRead.TheVariants as policy
-use Rattle.rules.specs.declared.edits.Edited.{Edited}
-use Rattle.rules.specs.declared.edits.Edited.TheVariants as edited
-use Rattle.rules.specs.declared.forms.RequestRead.{RequestRead}
-use Rattle.rules.specs.declared.forms.RequestRead.TheVariants as request
-use Rattle.rules.specs.declared.forms.Written.{Written}
-use Rattle.rules.specs.declared.forms.Written.TheVariants as written
 use Rattle.rules.specs.declared.verdict.CandidateVerdict.{CandidateVerdict}
 use Rattle.rules.specs.declared.verdict.CandidateVerdict.TheVariants as verdict
 use Rattle.rules.specs.declared.verdict.UtilityTerms.{UtilityTerms}
-use Rattle.rules.specs.declared.verdict.NextEligible.{NextEligible}
-use Rattle.rules.specs.declared.verdict.NextEligible.TheVariants as next
-use Rattle.rules.specs.declared.boundary.BoundaryCost.{BoundaryCost}
-use Rattle.rules.specs.declared.boundary.BoundaryCost.TheVariants as cost
 use Rattle.rules.specs.declared.boundary.Requirement.{Requirement}
 use Rattle.rules.specs.declared.boundary.Boundaries.{Boundaries}
-use Rattle.rules.specs.Refused.{Fault, told_refusal, told_outcome, Answer, refused, answered}
+use Rattle.rules.specs.declared.refusal.Refusal.{Refusal}
+use Rattle.rules.specs.Refused.{Fault, no_fault, Answer, told_answer}
 
 -- ---- decisions
 
@@ -101,61 +81,63 @@ told_decision d = record {
 abbrev pub is_rejection : Decision → Bool
 is_rejection d = eqb d.action 3
 
-abbrev pub told_prescribed : Prescribed → Answer Decision
-told_prescribed (prescribed.Refused r) = refused (told_refusal r)
-told_prescribed (prescribed.Decided d) = answered (told_decision d)
+-- What is said by Some and None
+abbrev pub told_option : {A : Type 0} → declared.Option A → Option A
+told_option (Some a) = some a
+told_option None = none
+
+abbrev pub told_prescribed : Result KernelDecision Refusal → Answer Decision
+told_prescribed r = told_answer told_decision r
 
 -- A decision with its counts
 pub record DecisionAndTrace : Type 0 where
   pub decision : Decision
   pub trace : DecisionTrace
 
-abbrev pub told_traced : Traced → Answer DecisionAndTrace
-told_traced (traced.Refused r) = refused (told_refusal r)
-told_traced (traced.Decided d t) = answered (record { decision = told_decision d; trace = t })
+abbrev pub told_trace : KernelDecision × DecisionTrace → DecisionAndTrace
+told_trace x = record { decision = told_decision x.0; trace = x.1 }
 
-abbrev pub told_utility : UtilityFound → Answer ℤ
-told_utility (utility.Refused r) = refused (told_refusal r)
-told_utility (utility.Utility u) = answered u
+abbrev pub told_traced : Result (KernelDecision × DecisionTrace) Refusal → Answer DecisionAndTrace
+told_traced r = told_answer told_trace r
 
-abbrev pub told_found : Found → Answer (Option ℕ)
-told_found (found.Refused r) = refused (told_refusal r)
-told_found (found.At place) = answered (some place)
-told_found found.Nowhere = answered none
+-- A number, as a count or a place
+abbrev pub told_number : Result ℕ Refusal → Answer ℕ
+told_number r = told_answer (λ n. n) r
+
+abbrev pub told_utility : Result ℤ Refusal → Answer ℤ
+told_utility r = told_answer (λ u. u) r
+
+abbrev pub told_found : Result (declared.Option ℕ) Refusal → Answer (Option ℕ)
+told_found r = told_answer told_option r
 
 -- ---- policies, stored forms
 
 -- O2. What reading a policy's bytes answers
-abbrev pub told_policy : PolicyRead → Answer PolicySnapshot
-told_policy (policy.Refused r) = refused (told_refusal r)
-told_policy (policy.Read p) = answered p
+abbrev pub told_policy : Result PolicySnapshot Refusal → Answer PolicySnapshot
+told_policy r = told_answer (λ p. p) r
 
 -- B11. What reading a stored form answers: the policy, and how many bytes of models now stand in the buffer
 pub record StoredPolicy : Type 0 where
   pub policy : PolicySnapshot
   pub size : ℕ
 
-abbrev pub told_stored : StoredRead → Answer StoredPolicy
-told_stored (stored.Refused r) = refused (told_refusal r)
-told_stored (stored.Read p size) = answered (record { policy = p; size = size })
+abbrev pub told_stored : Result (PolicySnapshot × ℕ) Refusal → Answer StoredPolicy
+told_stored r = told_answer (λ x. record { policy = x.0; size = x.1 }) r
 
 -- S7. What an edit answers: the policy with its catalogue epoch raised, and beside it the slot, or of a compaction how many records are live
 pub record EditedPolicy : Type 0 where
   pub policy : PolicySnapshot
   pub number : ℕ
 
-abbrev pub told_edited : Edited → Answer EditedPolicy
-told_edited (edited.Refused r) = refused (told_refusal r)
-told_edited (edited.Done p number) = answered (record { policy = p; number = number })
+abbrev pub told_edited : Result (PolicySnapshot × ℕ) Refusal → Answer EditedPolicy
+told_edited r = told_answer (λ x. record { policy = x.0; number = x.1 }) r
 
 -- B11. Reading a request form, and writing: how many bytes were written
-abbrev pub told_request : RequestRead → Answer KernelInput
-told_request (request.Refused r) = refused (told_refusal r)
-told_request (request.Read q) = answered q
+abbrev pub told_request : Result KernelInput Refusal → Answer KernelInput
+told_request r = told_answer (λ q. q) r
 
-abbrev pub told_written : Written → Answer ℕ
-told_written (written.Refused r) = refused (told_refusal r)
-told_written (written.Bytes n) = answered n
+abbrev pub told_written : Result ℕ Refusal → Answer ℕ
+told_written r = told_number r
 
 -- ---- verdicts
 
@@ -195,9 +177,8 @@ told_verdict (verdict.NonPositiveUtility t) = told_terms 3 t
 told_verdict (verdict.Eligible t) = told_terms 4 t
 
 -- X6. The next eligible entry of an explanation, if there is one
-abbrev pub told_next : NextEligible → Option ℕ
-told_next (next.At place) = some place
-told_next next.NoMore = none
+abbrev pub told_next : declared.Option ℕ → Option ℕ
+told_next o = told_option o
 
 -- ---- boundaries
 
@@ -208,9 +189,8 @@ pub record Entry : Type 0 where
   pub boundary : ℕ
   pub cost : Option ℕ
 
-abbrev pub told_cost : BoundaryCost → Option ℕ
-told_cost cost.Unpriced = none
-told_cost (cost.Microunits c) = some c
+abbrev pub told_cost : declared.Option ℕ → Option ℕ
+told_cost o = told_option o
 
 abbrev pub told_entry : Requirement → Entry
 told_entry r = record { lever = r.lever; current = r.current; boundary = r.boundary; cost = told_cost r.cost_at_boundary_microunits }
@@ -227,7 +207,7 @@ pub record Boundary : Type 0 where
 
 abbrev pub told_boundaries : Boundaries → Boundary
 told_boundaries b = record {
-  refusal = told_outcome b.outcome;
+  refusal = no_fault;
   model = b.model_id;
   decision = told_decision b.decision;
   blocked = b.blocked_by_request;

@@ -1,14 +1,11 @@
 -- Document 01, "Numbers handed back": a refusal's number with its values, the tests of a call, and its answer.
-use Rattle.std.specs.Prelude.{ℕ, ◌%◌, Bool, true, false, not, List, [], ◌∷◌, ◌++◌, eqb, ltb, length}
+use Rattle.std.specs.Prelude.{ℕ, ◌%◌, Bool, true, false, not, List, [], ◌∷◌, ◌++◌, eqb, ltb, length, Result, Ok, Err, ⊤}
 use Rattle.std.proofs.Math.Option.{Option, none, some}
 use Rattle.rules.specs.Limits.{record_bytes, max_catalog_models}
 use Rattle.rules.specs.Bytes.{filled}
 use Rattle.rules.specs.Records.{records_in}
 use Rattle.rules.specs.declared.refusal.Refusal.{Refusal}
 use Rattle.rules.specs.declared.refusal.Refusal.TheVariants as refusal
-use Rattle.rules.specs.declared.refusal.Outcome.{Outcome}
-use Rattle.rules.specs.declared.refusal.Outcome.TheVariants as outcome
-use Rattle.rules.specs.declared.refusal.Trusted.{Trusted}
 
 -- ---- refusals
 
@@ -63,16 +60,13 @@ told_refusal refusal.EpochSpent = fault 27
 told_refusal refusal.NoFreeSlot = fault 28
 told_refusal refusal.SlotNotClear = fault 34
 
--- What an outcome tells: nothing where it answers, else its refusal's number
+-- What a call that answers nothing else tells: nothing where it is Ok, else its refusal's number
 abbrev pub no_fault : Option Fault
 no_fault = none
 
-unfoldable pub told_outcome : Outcome → Option Fault
-told_outcome outcome.Answered = no_fault
-told_outcome (outcome.Refused r) = some (told_refusal r)
-
-abbrev pub told_trusted : Trusted → Option Fault
-told_trusted t = told_outcome t.outcome
+unfoldable pub told_outcome : Result ⊤ Refusal → Option Fault
+told_outcome (Ok _) = no_fault
+told_outcome (Err r) = some (told_refusal r)
 
 -- The tests of a call are lists: empty, or what its tests hand back. Joined in document 01's order, the first one counts
 abbrev pub Faults : Type 0
@@ -123,3 +117,8 @@ list_unless fs new list = unless fs (λ f. list) (filled new list)
 pub data Answer (A : Type 0) : Type 0 where
   refused : Fault → Answer A
   answered : A → Answer A
+
+-- What an answer tells, where it is told what stands in it
+abbrev pub told_answer : {A B : Type 0} → (A → B) → Result A Refusal → Answer B
+told_answer told (Ok a) = answered (told a)
+told_answer told (Err r) = refused (told_refusal r)

@@ -1,20 +1,12 @@
-// What a search finds, and the answer of `what_would_win` and `decision_margin`. A lever is its number: 1 quality, 2 latency, 3 price
-// scale, 4 ceiling, 5 enabled.
+// What a search finds, and what `what_would_win` and `decision_margin` tell where they aren't refused. A lever is its number: 1 quality, 2 latency, 3 price
+// scale, 4 ceiling, 5 enabled. It is no enum: an unused room tells 0, and what moves a lever answers for every number.
 use crate::decision::KernelDecision;
-use crate::refusal::Outcome;
 
-// The boundary with the passes that it took, or the passes alone.
+// The boundary, if there is one, and the passes that were made for it.
 #[derive(Clone, Copy)]
-pub enum Bound {
-    At(u64, u64),
-    Nothing(u64),
-}
-
-// What the decision costs at the boundary: the price lever's alone.
-#[derive(Clone, Copy)]
-pub enum BoundaryCost {
-    Unpriced,
-    Microunits(u64),
+pub struct Bound {
+    pub boundary: Option<u64>,
+    pub passes: u64,
 }
 
 #[derive(Clone, Copy)]
@@ -22,10 +14,11 @@ pub struct Requirement {
     pub lever: u8,
     pub current: u64,
     pub boundary: u64,
-    pub cost_at_boundary_microunits: BoundaryCost,
+    // What the decision costs there: the price lever's alone.
+    pub cost_at_boundary_microunits: Option<u64>,
 }
 
-// Room for four levers, how many are there, and the passes. The rooms after the last are zero.
+// Room for four levers, how many are there, and the passes. The rooms after the last are zero, as the bytes of an answer tell them, and nothing is allocated.
 #[derive(Clone, Copy)]
 pub struct Levers {
     pub levers: [Requirement; 4],
@@ -33,10 +26,9 @@ pub struct Levers {
     pub passes: u64,
 }
 
-// The Rust's `Counterfactual` and `Margin` in one. Where it is refused, every number is 0 and the decision is `NO_DECISION`.
+// The Rust's `Counterfactual` and `Margin` in one.
 #[derive(Clone, Copy)]
 pub struct Boundaries {
-    pub outcome: Outcome,
     pub model_id: u32,
     pub decision: KernelDecision,
     // The request was stopped by 100 or 101, so that no change of a model can help.

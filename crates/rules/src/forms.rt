@@ -1,33 +1,5 @@
-// What reading and writing a policy's bytes, a stored form and a request form answers; and a reader that is fed a form in parts.
-use crate::records::{KernelInput, PolicySnapshot};
+// A reader that is fed a form in parts.
 use crate::refusal::Refusal;
-
-// The policy that 30, 31 or 35 bytes say.
-#[derive(Clone, Copy)]
-pub enum PolicyRead {
-    Refused(Refusal),
-    Read(PolicySnapshot),
-}
-
-// The policy, and how many bytes of models stand at the buffer's start.
-#[derive(Clone, Copy)]
-pub enum StoredRead {
-    Refused(Refusal),
-    Read(PolicySnapshot, usize),
-}
-
-#[derive(Clone, Copy)]
-pub enum RequestRead {
-    Refused(Refusal),
-    Read(KernelInput),
-}
-
-// How many bytes were written to the buffer's start.
-#[derive(Clone, Copy)]
-pub enum Written {
-    Refused(Refusal),
-    Bytes(usize),
-}
 
 // Where a reader stands in a field.
 #[derive(Clone, Copy)]

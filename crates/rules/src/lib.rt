@@ -5,7 +5,6 @@
 
 pub mod boundary;
 pub mod decision;
-pub mod edits;
 pub mod forms;
 pub mod limits;
 pub mod records;
@@ -13,14 +12,10 @@ pub mod refusal;
 pub mod verdict;
 pub mod wide;
 
-pub use boundary::{Bound, Boundaries, BoundaryCost, Levers, Requirement};
-pub use decision::{
-    DecisionTrace, Found, KernelAction, KernelDecision, KernelReason, Prescribed,
-    RejectionHistogram, Traced, UtilityFound,
-};
-pub use edits::Edited;
-pub use forms::{PolicyRead, Reader, RequestRead, StoredRead, Within, Written};
+pub use boundary::{Bound, Boundaries, Levers, Requirement};
+pub use decision::{DecisionTrace, KernelAction, KernelDecision, KernelReason, RejectionHistogram};
+pub use forms::{Reader, Within};
 pub use records::{KernelInput, KernelModel, PolicySnapshot, Rounding};
-pub use refusal::{Outcome, Refusal, Trusted};
-pub use verdict::{CandidateVerdict, GateDetail, NextEligible, UtilityTerms};
+pub use refusal::Refusal;
+pub use verdict::{CandidateVerdict, GateDetail, UtilityTerms};
 pub use wide::{SignedWide, Wide};

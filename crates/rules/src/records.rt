@@ -39,10 +39,10 @@ pub struct KernelInput {
 }
 
 // How a cost is rounded up to whole microunits: input and output each apart, as the Rust does, or their sum once.
-#[derive(Clone, Copy)]
+#[derive(Clone, Copy, Debug, PartialEq, Eq)]
 pub enum Rounding {
-    Apart,
-    Once,
+    Apart = 0,
+    Once = 1,
 }
 
 impl Rounding {
@@ -50,10 +50,7 @@ impl Rounding {
     pub fn number(self) -> u8
         ensures { result ≡ rounding_no self }
     {
-        match self {
-            Rounding::Apart => 0,
-            Rounding::Once => 1,
-        }
+        self as u8
     }
 }
 

@@ -1,8 +1,9 @@
-// Why a call is refused: a case for each number of documents 01 and 02, with that number's values.
+// Why a call is refused: a case for each number of documents 01 and 02, with that number's values. A call that may be refused answers a
+// `Result<_, Refusal>`.
 ghost use Rattle.std.specs.Prelude.{◌≡◌};
 ghost use Rattle.rules.specs.Refused.{told_refusal};
 
-#[derive(Clone, Copy)]
+#[derive(Clone, Copy, Debug, PartialEq, Eq)]
 pub enum Refusal {
     // 1: the bank's length is no multiple of a record's.
     UnevenBank,
@@ -75,19 +76,6 @@ pub enum Refusal {
     NoFreeSlot,
     // 34: a slot with id 0 has another byte set.
     SlotNotClear,
-}
-
-// Whether a call was refused, where it answers nothing else or its answer stands beside this.
-#[derive(Clone, Copy)]
-pub enum Outcome {
-    Answered,
-    Refused(Refusal),
-}
-
-// The answer of `trust`: a struct, since more may come to stand in it.
-#[derive(Clone, Copy)]
-pub struct Trusted {
-    pub outcome: Outcome,
 }
 
 impl Refusal {

@@ -19,7 +19,7 @@ pub struct GateDetail {
     pub limit: u64,
 }
 
-// The gate is its number, 1 to 8, in the order in which gates are met.
+// The gate is its number, 1 to 8, in the order in which gates are met: what tells of a gate (`rejections`) answers for every number.
 #[derive(Clone, Copy)]
 pub enum CandidateVerdict {
     Rejected {
@@ -33,11 +33,4 @@ pub enum CandidateVerdict {
     },
     NonPositiveUtility(UtilityTerms),
     Eligible(UtilityTerms),
-}
-
-// The place of the next eligible entry of an explanation, or none.
-#[derive(Clone, Copy)]
-pub enum NextEligible {
-    At(usize),
-    NoMore,
 }

@@ -7,7 +7,7 @@ pub struct Wide {
     pub lo: u64,
 }
 
-// A number of two limbs with its sign. Zero is not negative.
+// A number of two limbs with its sign, which is a part of the number and no flag beside it. Zero is not negative.
 #[derive(Clone, Copy)]
 pub struct SignedWide {
     pub negative: bool,

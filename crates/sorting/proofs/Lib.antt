@@ -1,4 +1,3 @@
--- The laws of the mover's loops, of the place of insertion, and of a bank while it is being ordered.
-pub mod Copies
+-- The laws of the place of insertion, and of a bank while it is being ordered.
 pub mod Places
 pub mod Turns

@@ -1,33 +1,12 @@
 -- Pieces written into a buffer: none, one, and one more; and what stands there then. Assumes nothing.
-use Rattle.rules.proofs.Kit.{ℕ, ◌+◌, ◌≤◌, ◌<◌, ◌≡◌, refl, sym, ap, subst, ◌∙◌, Bool, true, false, cond, List, [], ◌++◌, append_assoc, Option, none, some}
-use Rattle.rules.proofs.Kit.{Option·some-injective, Option·none-ne-some, arith, zero-add, add-zero, add-one, length, take, drop, set, get_or, length-append}
-use Rattle.rules.proofs.Kit.{take-append-drop, leb, take_at, take-length, paste, paste-zero, paste-suc, leb-true}
+use Rattle.rules.proofs.Kit.{ℕ, ◌+◌, ◌≤◌, ◌≡◌, refl, sym, ap, subst, ◌∙◌, Bool, true, false, cond, List, [], ◌++◌, Option, none, some}
+use Rattle.rules.proofs.Kit.{Option·some-injective, Option·none-ne-some, arith, zero-add, add-zero, length, take, drop, length-append}
+use Rattle.rules.proofs.Kit.{take-append-drop, leb, take_at, leb-true}
 use Rattle.rules.specs.{Bytes.filled, Choice.at_least}
 use Rattle.endian_writing.specs.Put.{patched}
 use Rattle.endian_writing.proofs.Stored.{length-patched, patch_join}
 use Rattle.rules.proofs.Choices.{at_least-yes}
 use Rattle.splice.specs.Placed.{placed}
-
--- ---- one piece, byte by byte
-
--- The buffer with the first bytes of a piece copied in
-unfoldable pub copied : List ℕ → ℕ → List ℕ → ℕ → List ℕ
-copied out at bytes i = paste out at bytes i
-
-pub copied_none : (out : List ℕ) (at : ℕ) (bytes : List ℕ) → out ≡ copied out at bytes 0
-unfolding copied
-copied_none out at bytes = paste-zero out at bytes
-
-pub copied_more : {out₁ : List ℕ} (out : List ℕ) (at : ℕ) (bytes : List ℕ) (i : ℕ) → at + i < length out → i < length bytes → out₁ ≡ copied out at bytes i
-    → set out₁ (at + i) (get_or bytes i 0) ≡ copied out at bytes (i + 1)
-unfolding copied
-copied_more out at bytes i room h e = rw (e, add-one i) (paste-suc out at bytes i 0 room h)
-
-pub copied_all : (out : List ℕ) (at : ℕ) (bytes : List ℕ) (i : ℕ) → i ≡ length bytes → copied out at bytes i ≡ patched out at bytes
-unfolding copied patched
-copied_all out at bytes i e = rw (e, take-length) (append_assoc (take at out) bytes (drop (at + length bytes) out))
-
--- ---- pieces one after the other
 
 -- What a writer's promise says: there was room for the bytes, the next position is the one after them, and the buffer is as it was but for them
 pub record Written (before : List ℕ) (at : ℕ) (bytes after : List ℕ) (next : ℕ) : Type 0 where

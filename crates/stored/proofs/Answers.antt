@@ -2,7 +2,8 @@
 use Rattle.rules.proofs.Kit.{List, ◌≡◌, sym, ◌∙◌, ℕ, length}
 use Rattle.rules.specs.{Numbers.told_stored, Numbers.told_request, Numbers.told_written, Stored.write_stored_of, Stored.write_stored_buffer, Stored.read_stored_of}
 use Rattle.rules.specs.{Stored.read_stored_buffer, Stored.write_request_of, Stored.write_request_buffer, Stored.read_request_of}
-use Rattle.rules.specs.{declared.records.KernelInput.KernelInput, declared.records.PolicySnapshot.PolicySnapshot, declared.forms.RequestRead.RequestRead}
+use Rattle.rules.specs.{declared.records.KernelInput.KernelInput, declared.records.PolicySnapshot.PolicySnapshot, declared.refusal.Refusal.Refusal}
+use Rattle.std.specs.Prelude.{Result}
 use Rattle.rules.proofs.{Told.Determined, ToldStored.one_stored, ToldStored.one_request, ToldStored.one_written}
 
 -- an answer with a buffer at exit, as a promise permits them, and that any two such are equal
@@ -24,5 +25,5 @@ one_read_stored form buffer = one_pair told_stored one_stored _ _
 pub one_write_request : (q : KernelInput) (out : List ℕ) → Same told_written (write_request_of q (length out)) (write_request_buffer q out)
 one_write_request q out = one_pair told_written one_written _ _
 
-pub one_read_request : (form : List ℕ) (r s : RequestRead) → told_request r ≡ read_request_of form → told_request s ≡ read_request_of form → r ≡ s
+pub one_read_request : (form : List ℕ) (r s : Result KernelInput Refusal) → told_request r ≡ read_request_of form → told_request s ≡ read_request_of form → r ≡ s
 one_read_request form = one_request (read_request_of form)

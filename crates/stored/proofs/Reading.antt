@@ -1,15 +1,15 @@
 -- What is read: the parts of a form that passes, and what refuses one. Assumes nothing.
-use Rattle.rules.proofs.Kit.{ℕ, ◌≤◌, ◌<◌, ◌≡◌, sym, ap, ◌∙◌, List, [], ◌∷◌, length}
+use Rattle.rules.proofs.Kit.{ℕ, ◌≤◌, ◌<◌, ◌≡◌, refl, sym, ap, ◌∙◌, List, [], ◌∷◌, length}
 use Rattle.rules.specs.{Bytes.filled, Records.input_of, Refused.room_faults, Refused.answered, Refused.first_fault, Refused.told_outcome, Refused.refused}
 use Rattle.rules.specs.{Stored.body_of, Stored.form_faults, Stored.stored_tags, Stored.stored_policy, Stored.stored_bank, Stored.read_faults}
 use Rattle.rules.specs.{Stored.read_stored_of}
 use Rattle.rules.specs.{Stored.read_stored_buffer, Stored.read_request_of, declared.records.KernelInput.KernelInput}
 use Rattle.rules.specs.{declared.records.PolicySnapshot.PolicySnapshot}
-use Rattle.rules.specs.{declared.refusal.Refusal.Refusal, declared.refusal.Outcome.Outcome, declared.refusal.Outcome.TheVariants.Answered}
-use Rattle.rules.specs.{declared.refusal.Outcome.TheVariants.Refused}
+use Rattle.rules.specs.declared.refusal.Refusal.{Refusal}
+use Rattle.std.specs.Prelude.{Err}
 use Rattle.endian_writing.specs.Put.{patched}
 use Rattle.splice.proofs.Pieces.{patched_start}
-use Rattle.rules.proofs.Faults.{room_enough, append_refused, none_told, room_short, unless_none}
+use Rattle.rules.proofs.Faults.{room_enough, append_refused, room_short, unless_none}
 use Rattle.stored_layout.proofs.Openings.{Opened, opened}
 use Rattle.rules.specs.declared.refusal.Refusal.TheVariants as refusal
 
@@ -19,20 +19,21 @@ catalog_fields form e = opened [] form e
 
 -- ---- what refuses a stored form
 
-module _ {o : Outcome} (form : List ℕ) (room : ℕ) (h : told_outcome o ≡ first_fault (form_faults stored_tags form)) where
-  -- its own faults come first
-  pub reading_refused : {r : Refusal} → o ≡ Refused r → told_outcome (Refused r) ≡ first_fault (read_faults form room)
-  unfolding read_faults
-  reading_refused e = append_refused (form_faults stored_tags form) (room_faults (length (stored_bank form)) room) e h
+-- its own faults come first
+pub reading_refused : (r : Refusal) (form : List ℕ) (room : ℕ) → told_outcome (Err r) ≡ first_fault (form_faults stored_tags form)
+    → told_outcome (Err r) ≡ first_fault (read_faults form room)
+unfolding read_faults
+reading_refused r form room h = append_refused (form_faults stored_tags form) (room_faults (length (stored_bank form)) room) refl h
 
+module _ (form : List ℕ) (room : ℕ) (none : form_faults stored_tags form ≡ []) where
   -- then the room
-  pub reading-short : o ≡ Answered → room < length (stored_bank form) → told_outcome (Refused refusal.NoRoom) ≡ first_fault (read_faults form room)
+  pub reading_short : room < length (stored_bank form) → told_outcome (Err refusal.NoRoom) ≡ first_fault (read_faults form room)
   unfolding read_faults
-  reading-short e m = rw (none_told (form_faults stored_tags form) e h) (room_short (length (stored_bank form)) room m)
+  reading_short m = rw none (room_short (length (stored_bank form)) room m)
 
-  pub reading-none : o ≡ Answered → length (stored_bank form) ≤ room → read_faults form room ≡ []
+  pub reading_none : length (stored_bank form) ≤ room → read_faults form room ≡ []
   unfolding read_faults
-  reading-none e m = rw (none_told (form_faults stored_tags form) e h) (room_enough (length (stored_bank form)) room m)
+  reading_none m = rw none (room_enough (length (stored_bank form)) room m)
 
 -- ---- what is answered where nothing refuses
 

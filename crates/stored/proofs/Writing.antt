@@ -4,12 +4,12 @@ use Rattle.rules.specs.{Limits.field_header_bytes, Limits.max_stored_models, Lim
 use Rattle.rules.specs.{Refused.fault, Refused.refuse_if, Refused.length_faults, Refused.room_faults, Refused.first_fault, Refused.told_outcome, Stored.field_bytes}
 use Rattle.rules.specs.{Stored.rounding_field, Stored.allowance_field, Stored.stored_form, Stored.write_faults, Stored.request_form, declared.records.KernelInput.KernelInput}
 use Rattle.rules.specs.{declared.records.PolicySnapshot.PolicySnapshot, declared.records.Rounding.Rounding, declared.records.Rounding.TheVariants.Apart}
-use Rattle.rules.specs.{declared.records.Rounding.TheVariants.Once, declared.refusal.Outcome.Outcome, declared.refusal.Outcome.TheVariants.Answered}
-use Rattle.rules.specs.{declared.refusal.Outcome.TheVariants.Refused}
+use Rattle.rules.specs.{declared.records.Rounding.TheVariants.Once}
+use Rattle.std.specs.Prelude.{Ok, Err}
 use Rattle.endian_writing.proofs.Bytes.{length_bytes}
 use Rattle.packing.proofs.Trips.{length-numbers, length_input}
 use Rattle.stored.specs.Writing.{rounding_size, allowance_size, form_size, writing_faults}
-use Rattle.rules.proofs.Faults.{none_after, room_passed, none_told}
+use Rattle.rules.proofs.Faults.{none_after, room_passed}
 use Rattle.rules.specs.declared.refusal.Refusal.TheVariants as refusal
 
 -- A field has its header before its body
@@ -64,16 +64,16 @@ writing_room r a n room e =
     room_passed _ room (none_after (length_faults n ++ refuse_if (ltb max_stored_models (records_in n)) (fault 18)) _ e)
 
 -- The tests after the bank's own: too many to store, no room, none
-module _ {o : Outcome} (r : Rounding) (a n room : ℕ) (e : o ≡ Answered) (h : told_outcome o ≡ first_fault (length_faults n)) where
-  pub writing-many : max_stored_models < records_in n → told_outcome (Refused refusal.TooManyToStore) ≡ first_fault (writing_faults r a n room)
+module _ (r : Rounding) (a n room : ℕ) (none : length_faults n ≡ []) where
+  pub writing_many : max_stored_models < records_in n → told_outcome (Err refusal.TooManyToStore) ≡ first_fault (writing_faults r a n room)
   unfolding writing_faults told_outcome first_fault
-  writing-many m = rw (none_told (length_faults n) e h, lt-ltb max_stored_models (records_in n) m)
+  writing_many m = rw (none, lt-ltb max_stored_models (records_in n) m)
 
   module _ (few : records_in n ≤ max_stored_models) where
-    pub writing-short : room < form_size r a n → told_outcome (Refused refusal.NoRoom) ≡ first_fault (writing_faults r a n room)
+    pub writing_short : room < form_size r a n → told_outcome (Err refusal.NoRoom) ≡ first_fault (writing_faults r a n room)
     unfolding writing_faults room_faults told_outcome first_fault
-    writing-short m = rw (none_told (length_faults n) e h, le-ltb max_stored_models (records_in n) few, lt-ltb room (form_size r a n) m)
+    writing_short m = rw (none, le-ltb max_stored_models (records_in n) few, lt-ltb room (form_size r a n) m)
 
-    pub writing-passed : form_size r a n ≤ room → told_outcome Answered ≡ first_fault (writing_faults r a n room)
+    pub writing_passed : form_size r a n ≤ room → told_outcome (Ok tt) ≡ first_fault (writing_faults r a n room)
     unfolding writing_faults room_faults told_outcome first_fault
-    writing-passed m = rw (none_told (length_faults n) e h, le-ltb max_stored_models (records_in n) few, le-ltb room (form_size r a n) m)
+    writing_passed m = rw (none, le-ltb max_stored_models (records_in n) few, le-ltb room (form_size r a n) m)

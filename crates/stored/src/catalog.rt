@@ -8,10 +8,9 @@ ghost use Rattle.splice.specs.Placed.{placed};
 ghost use Rattle.stored.specs.Writing.{rounding_size, allowance_size, writing_faults};
 
 use call_checks::refuse::bank_outcome;
-use endian_writing::put32;
 use packing::policy_number_bytes;
 use rules::limits::{FIELD_HEADER_BYTES, MAX_STORED_MODELS, POLICY_BYTES, RECORD_BYTES};
-use rules::{Outcome, PolicySnapshot, Refusal, Rounding, StoredRead, Written};
+use rules::{PolicySnapshot, Refusal, Rounding};
 use splice::put_bytes;
 use stored_fields::{
     ALLOWANCE_BYTES, ALLOWANCE_TAG, BANK_TAG, POLICY_TAG, ROUNDING_BYTES, ROUNDING_ONCE,
@@ -30,6 +29,7 @@ fn rounding_size(rounding: Rounding) -> usize
 }
 
 // How many bytes tell its allowance.
+#[tactic(auto, unfolding(rules::specs::Choice::equal))]
 fn allowance_size(allowance: u32) -> usize
     ensures { result ≡ allowance_size allowance }
 {
@@ -40,22 +40,19 @@ fn allowance_size(allowance: u32) -> usize
 }
 
 // Whether a bank of so many bytes can be written into so much room, under a policy that rounds so and has this allowance, and if not, why.
-fn writing(rounding: Rounding, allowance: u32, length: usize, room: usize) -> Outcome
+fn writing(rounding: Rounding, allowance: u32, length: usize, room: usize) -> Result<(), Refusal>
     ensures { told_outcome result ≡ first_fault (writing_faults rounding allowance length room) }
 {
-    let outcome = bank_outcome(length);
-    if let Outcome::Refused(refusal) = outcome {
-        return Outcome::Refused(refusal);
-    }
+    bank_outcome(length)?;
     let fields = FIELD_HEADER_BYTES + POLICY_BYTES + (FIELD_HEADER_BYTES + length);
     let needed = fields + rounding_size(rounding) + allowance_size(allowance);
     if MAX_STORED_MODELS < length / RECORD_BYTES {
-        return Outcome::Refused(Refusal::TooManyToStore);
+        return Err(Refusal::TooManyToStore);
     }
     if room < needed {
-        return Outcome::Refused(Refusal::NoRoom);
+        return Err(Refusal::NoRoom);
     }
-    Outcome::Answered
+    Ok(())
 }
 
 // Puts tag 4 for rounding once, and nothing for rounding apart; answers the position after it.
@@ -63,10 +60,9 @@ fn put_rounding(out: &mut [u8], at: usize, rounding: Rounding) -> usize
     requires { at + rounding_size rounding ≤ length out.old }
     ensures { some (result, out.new) ≡ placed out.old at (rounding_field rounding) }
 {
-    let once = [ROUNDING_ONCE];
     match rounding {
         Rounding::Apart => at,
-        Rounding::Once => put_field(out, at, ROUNDING_TAG, &once),
+        Rounding::Once => put_field(out, at, ROUNDING_TAG, &[ROUNDING_ONCE]),
     }
 }
 
@@ -78,44 +74,33 @@ fn put_allowance(out: &mut [u8], at: usize, allowance: u32) -> usize
     if allowance == 0 {
         return at;
     }
-    let mut body = [0u8; ALLOWANCE_BYTES];
-    put32(&mut body, 0, allowance);
-    put_field(out, at, ALLOWANCE_TAG, &body)
+    put_field(out, at, ALLOWANCE_TAG, &allowance.to_le_bytes())
 }
 
 // Writes a policy with its bank to the start of a buffer, whose other bytes stay. Refused: 1, 2, 18, 4.
-pub fn write_stored(policy: PolicySnapshot, bank: &[u8], out: &mut [u8]) -> Written
+pub fn write_stored(policy: PolicySnapshot, bank: &[u8], out: &mut [u8]) -> Result<usize, Refusal>
     ensures { (told_written result ≡ write_stored_of policy bank.now (length out.old)) × (out.new ≡ write_stored_buffer policy bank.now out.old) }
 {
     let rounding = policy.rounding;
     let allowance = policy.latency_allowance_ms;
-    let outcome = writing(rounding, allowance, bank.len(), out.len());
-    if let Outcome::Refused(refusal) = outcome {
-        return Written::Refused(refusal);
-    }
-    let head = policy_number_bytes(policy);
-    let next = put_field(out, 0, POLICY_TAG, &head);
+    writing(rounding, allowance, bank.len(), out.len())?;
+    let next = put_field(out, 0, POLICY_TAG, &policy_number_bytes(policy));
     let after = put_field(out, next, BANK_TAG, bank);
     let rounded = put_rounding(out, after, rounding);
-    let end = put_allowance(out, rounded, allowance);
-    Written::Bytes(end)
+    Ok(put_allowance(out, rounded, allowance))
 }
 
 // Reads a policy with its bank. The models' bytes go to the start of a buffer, whose other bytes stay; none is copied before the form's end
 // was seen. Refused: 20 to 23 and 25 at each field in its turn, then 4.
-pub fn read_stored(form: &[u8], buffer: &mut [u8]) -> StoredRead
+pub fn read_stored(form: &[u8], buffer: &mut [u8]) -> Result<(PolicySnapshot, usize), Refusal>
     ensures { (told_stored result ≡ read_stored_of form.now (length buffer.old)) × (buffer.new ≡ read_stored_buffer form.now buffer.old) }
 {
     let tags = [POLICY_TAG, BANK_TAG, ROUNDING_TAG, ALLOWANCE_TAG];
-    let outcome = lay_out(form, &tags);
-    if let Outcome::Refused(refusal) = outcome {
-        return StoredRead::Refused(refusal);
-    }
+    lay_out(form, &tags)?;
     let bank = front_body(after_front(form));
-    let size = bank.len();
-    if buffer.len() < size {
-        return StoredRead::Refused(Refusal::NoRoom);
+    if buffer.len() < bank.len() {
+        return Err(Refusal::NoRoom);
     }
     put_bytes(buffer, 0, bank);
-    StoredRead::Read(policy_in(form), size)
+    Ok((policy_in(form), bank.len()))
 }

@@ -6,7 +6,7 @@ use Rattle.endian.proofs.Spelled.{byte_at}
 use Rattle.stored_fields.specs.Fields.{Bodied}
 use Rattle.stored_fields.proofs.Lengths.{fits_rounding, fits_allowance}
 use Rattle.rules.specs.declared.refusal.Refusal.TheVariants as refusal
-use Rattle.rules.specs.declared.refusal.Outcome.TheVariants as outcome
+use Rattle.std.specs.Prelude.{Ok, Err}
 
 -- What the code tests of a body: tag 4's byte is not 1; the number of tag 5's four is 0
 abbrev pub not_once : ℕ → List ℕ → Bool
@@ -57,15 +57,15 @@ module _ (tag : ℕ) (s : List ℕ) (k : Bodied tag s) where
         asked_of 5 (eqb (number (body_of s)) 0) (eqb (number_at s field_header_bytes 4) 0) (λ e. rw (allowance-said e)),
       )
 
-  pub body-unknown : not_once tag s ≡ true → told_outcome (outcome.Refused refusal.UnknownRounding) ≡ first_fault (body_faults tag (body_of s))
+  pub body-unknown : not_once tag s ≡ true → told_outcome (Err refusal.UnknownRounding) ≡ first_fault (body_faults tag (body_of s))
   unfolding told_outcome first_fault
   body-unknown u = rw (body-tests, u)
 
   pub body-zero : not_once tag s ≡ false → none_allowed tag s ≡ true
-      → told_outcome (outcome.Refused refusal.ZeroAllowance) ≡ first_fault (body_faults tag (body_of s))
+      → told_outcome (Err refusal.ZeroAllowance) ≡ first_fault (body_faults tag (body_of s))
   unfolding told_outcome first_fault
   body-zero u z = rw (body-tests, u, z)
 
-  pub body-passes : not_once tag s ≡ false → none_allowed tag s ≡ false → told_outcome outcome.Answered ≡ first_fault (body_faults tag (body_of s))
+  pub body-passes : not_once tag s ≡ false → none_allowed tag s ≡ false → told_outcome (Ok tt) ≡ first_fault (body_faults tag (body_of s))
   unfolding told_outcome first_fault
   body-passes u z = rw (body-tests, u, z)

@@ -1,14 +1,12 @@
 -- One field, by cases: which premises lead to which answer. Assumes nothing.
-use Rattle.rules.proofs.Kit.{ℕ, ◌+◌, ◌≤◌, ◌<◌, ◌≡◌, sym, ◌∙◌, true, false, not, List, [], ◌∷◌, ◌++◌, arith, lt-ltb, le-ltb, eq-eqb, ne_eqb, ltb, length, get_or}
-use Rattle.rules.specs.{Limits.field_header_bytes, Refused.fault, Refused.refuse_if, Refused.first_fault, Refused.told_outcome, Refused.refused, Refused.answered}
+use Rattle.rules.proofs.Kit.{ℕ, ◌+◌, ◌≤◌, ◌<◌, ◌≡◌, refl, sym, ◌∙◌, true, false, not, List, [], ◌∷◌, ◌++◌, arith, lt-ltb, le-ltb, eq-eqb, ne_eqb, ltb, length, get_or}
+use Rattle.rules.specs.{Limits.field_header_bytes, Refused.fault, Refused.refuse_if, Refused.first_fault, Refused.told_outcome, Refused.answered}
 use Rattle.rules.specs.{Stored.fits, Stored.tag_of, Stored.body_length, Stored.body_of, Stored.body_faults, Stored.field_faults, declared.refusal.Refusal.Refusal}
-use Rattle.rules.specs.{declared.refusal.Outcome.Outcome}
-use Rattle.rules.proofs.Faults.{none_told, unless_refused}
+use Rattle.std.specs.Prelude.{Result, Ok, Err, IsErrAnd}
+use Rattle.rules.proofs.Faults.{exit_answer, passed_answer}
 use Rattle.endian.proofs.Numbers.{number_one}
 use Rattle.stored_fields.specs.{Fields.told_field, Fields.field_size, Fields.field_of, Fields.Headed, Fields.Bodied}
-use Rattle.stored_fields.specs.{declared.Field.TheVariants.Bytes, declared.Field.TheVariants.Refused}
 use Rattle.rules.specs.declared.refusal.Refusal.TheVariants as refusal
-use Rattle.rules.specs.declared.refusal.Outcome.TheVariants as outcome
 
 -- The tag is the first byte
 pub first_tag : (s : List ℕ) → field_header_bytes ≤ length s → get_or s 0 0 ≡ tag_of s
@@ -18,16 +16,16 @@ first_tag (b ∷ s) h = sym (number_one b)
 -- ---- the cases, in their order
 
 module _ (tag : ℕ) (s : List ℕ) where
-  pub field-none : length s ≡ 0 → told_field (Refused refusal.WrongTag) ≡ field_of tag s
-  unfolding told_field field_of field_faults
+  pub field-none : length s ≡ 0 → told_field (Err refusal.WrongTag) ≡ field_of tag s
+  unfolding field_of field_faults
   field-none e = rw (eq-eqb (length s) 0 e)
 
-  pub field_cut : (length s ≡ 0 → ⊥) → length s < field_header_bytes → told_field (Refused refusal.CutShort) ≡ field_of tag s
-  unfolding told_field field_of field_faults
+  pub field_cut : (length s ≡ 0 → ⊥) → length s < field_header_bytes → told_field (Err refusal.CutShort) ≡ field_of tag s
+  unfolding field_of field_faults
   field_cut e h = rw (ne_eqb (length s) 0 e, lt-ltb (length s) field_header_bytes h)
 
-  pub field-tag : field_header_bytes ≤ length s → (get_or s 0 0 ≡ tag → ⊥) → told_field (Refused refusal.WrongTag) ≡ field_of tag s
-  unfolding told_field field_of field_faults
+  pub field-tag : field_header_bytes ≤ length s → (get_or s 0 0 ≡ tag → ⊥) → told_field (Err refusal.WrongTag) ≡ field_of tag s
+  unfolding field_of field_faults
   field-tag h e =
       rw (
         ne_eqb (length s) 0 (λ z. omega (arith, z, h)),
@@ -48,12 +46,12 @@ module _ (tag : ℕ) (s : List ℕ) where
           ← l,
         )
 
-    pub field-length : fits tag n ≡ false → told_field (Refused refusal.WrongLength) ≡ field_of tag s
-    unfolding told_field field_of
+    pub field-length : fits tag n ≡ false → told_field (Err refusal.WrongLength) ≡ field_of tag s
+    unfolding field_of
     field-length f = rw (after-header, f)
 
-    pub field-short : fits tag n ≡ true → length s < field_header_bytes + n → told_field (Refused refusal.CutShort) ≡ field_of tag s
-    unfolding told_field field_of
+    pub field-short : fits tag n ≡ true → length s < field_header_bytes + n → told_field (Err refusal.CutShort) ≡ field_of tag s
+    unfolding field_of
     field-short f g = rw (after-header, f, lt-ltb (length s) (field_header_bytes + n) g)
 
     module _ (f : fits tag n ≡ true) (g : field_header_bytes + n ≤ length s) where
@@ -64,11 +62,11 @@ module _ (tag : ℕ) (s : List ℕ) where
       body-left = after-header ∙ rw (f, le-ltb (length s) (field_header_bytes + n) g)
 
       -- then its body decides
-      module _ {o : Outcome} (told : told_outcome o ≡ first_fault (body_faults tag (body_of s))) where
-        pub field-refused : {r : Refusal} → o ≡ outcome.Refused r → told_field (Refused r) ≡ field_of tag s
-        unfolding told_field field_of
-        field-refused {r} e = rw body-left (sym (unless_refused (body_faults tag (body_of s)) refused (answered (field_size s)) e told))
+      pub field-refused : (r : Result ℕ Refusal) (e : Refusal) → IsErrAnd r (λ x. x ≡ e) → told_outcome (Err e) ≡ first_fault (body_faults tag (body_of s))
+          → told_field r ≡ field_of tag s
+      unfolding field_of
+      field-refused r e is told = rw body-left (exit_answer (λ n. n) r e (body_faults tag (body_of s)) (answered (field_size s)) is told)
 
-        pub field-whole : o ≡ outcome.Answered → told_field (Bytes (field_header_bytes + n)) ≡ field_of tag s
-        unfolding told_field field_of
-        field-whole e = rw (body-left, none_told (body_faults tag (body_of s)) e told, ← l)
+      pub field-whole : told_outcome (Ok tt) ≡ first_fault (body_faults tag (body_of s)) → told_field (Ok (field_header_bytes + n)) ≡ field_of tag s
+      unfolding field_of
+      field-whole told = rw (body-left, ← l) (passed_answer (body_faults tag (body_of s)) _ _ told refl)

@@ -1,15 +1,14 @@
 -- A field at the front of some bytes as the reader answers it.
-use Rattle.std.specs.Prelude.{ℕ, ◌+◌, ◌≤◌, ◌≡◌, true, List, length, get_or}
+use Rattle.std.specs.Prelude.{ℕ, ◌+◌, ◌≤◌, ◌≡◌, true, List, length, get_or, Result}
 use Rattle.rules.specs.Limits.{field_header_bytes}
-use Rattle.rules.specs.Refused.{told_refusal, Answer, refused, answered, unless}
+use Rattle.rules.specs.Refused.{Answer, refused, answered, unless}
 use Rattle.rules.specs.Stored.{fits, body_length, field_faults}
-use Rattle.stored_fields.specs.declared.Field.{Field}
-use Rattle.stored_fields.specs.declared.Field.TheVariants.{Bytes, Refused}
+use Rattle.rules.specs.Numbers.{told_number}
+use Rattle.rules.specs.declared.refusal.Refusal.{Refusal}
 
 -- What the reader tells: how many bytes the field has, or the number that is handed back
-unfoldable pub told_field : Field → Answer ℕ
-told_field (Bytes n) = answered n
-told_field (Refused r) = refused (told_refusal r)
+abbrev pub told_field : Result ℕ Refusal → Answer ℕ
+told_field r = told_number r
 
 -- How many bytes the field at the front of some bytes has
 abbrev pub field_size : List ℕ → ℕ

@@ -1,14 +1,13 @@
 -- A field that is due and may be missing: which premises lead to which answer, and what the reader's answer tells. Assumes nothing.
-use Rattle.rules.proofs.Kit.{ℕ, ◌≤◌, ◌≡◌, refl, sym, ap, ◌∙◌, Bool, true, false, not, cond, List, [], ◌∷◌, ◌++◌, arith, eqb, length, get_or, drop}
+use Rattle.rules.proofs.Kit.{ℕ, ◌≤◌, ◌≡◌, refl, sym, Bool, true, false, not, cond, List, [], ◌∷◌, ◌++◌, arith, eqb, length, get_or, drop}
 use Rattle.rules.proofs.Kit.{drop_of_length-le, ne_eqb, false≢true}
 use Rattle.rules.specs.{Bytes.number, Refused.Faults, Refused.refused, Refused.answered, Refused.unless, Refused.told_refusal, Refused.first_fault}
 use Rattle.rules.specs.{Refused.told_outcome, Stored.tag_of, Stored.after_of, Stored.left_out, Stored.due_faults, Stored.after_due, declared.refusal.Refusal.Refusal}
 use Rattle.endian.proofs.Spelled.{byte_at}
-use Rattle.stored_fields.specs.{Fields.told_field, Fields.field_size, Fields.field_of, declared.Field.Field, declared.Field.TheVariants.Bytes}
-use Rattle.stored_fields.specs.{declared.Field.TheVariants.Refused}
+use Rattle.stored_fields.specs.{Fields.told_field, Fields.field_size, Fields.field_of}
+use Rattle.std.specs.Prelude.{Ok, Err}
 use Rattle.stored_layout.specs.Layout.{due_size, due_of}
 use Rattle.stored_layout.proofs.{Passing.Passed, Passing.optional, Passing.field_passed, Buffers.none_answered}
-use Rattle.rules.specs.declared.refusal.Outcome.TheVariants as outcome
 
 -- A TAG THAT MAY BE MISSING is, where another byte stands, or none: there its byte reads as 0
 module _ (tag : ℕ) (s : List ℕ) (may : optional tag ≡ true) where
@@ -27,8 +26,8 @@ module _ (tag : ℕ) (s : List ℕ) (may : optional tag ≡ true) where
 
 -- A FIELD THAT MAY BE MISSING, missing or not
 module _ (tag : ℕ) (s : List ℕ) where
-  pub due-left-out : left_out tag s ≡ true → told_field (Bytes 0) ≡ due_of tag s
-  unfolding told_field due_of
+  pub due-left-out : left_out tag s ≡ true → told_field (Ok 0) ≡ due_of tag s
+  unfolding due_of
   due-left-out m = rw m
 
   pub due-there : left_out tag s ≡ false → field_of tag s ≡ due_of tag s
@@ -56,19 +55,18 @@ due_within tag s e = go (left_out tag s) refl
 
 -- ---- what the reader's answer tells
 
-pub size_told : {f : Field} {n : ℕ} (tag : ℕ) (s : List ℕ) → f ≡ Bytes n → told_field f ≡ due_of tag s → (due_faults tag s ≡ []) × (n ≡ due_size tag s)
-unfolding told_field due_of
-size_told {f} {n} tag s p e =
-    let t = none_answered (due_faults tag s) (due_size tag s) n (sym e ∙ ap told_field p) in
+pub size_told : {n : ℕ} (tag : ℕ) (s : List ℕ) → told_field (Ok n) ≡ due_of tag s → (due_faults tag s ≡ []) × (n ≡ due_size tag s)
+unfolding due_of
+size_told {n} tag s e =
+    let t = none_answered (due_faults tag s) (due_size tag s) n (sym e) in
     (t.0, sym t.1)
 
-told_refused : (r : Refusal) (n : ℕ) (fs gs : Faults) → refused (told_refusal r) ≡ unless fs refused (answered n)
-    → told_outcome (outcome.Refused r) ≡ first_fault (fs ++ gs)
+told_refused : (r : Refusal) (n : ℕ) (fs gs : Faults) → refused (told_refusal r) ≡ unless fs refused (answered n) → told_outcome (Err r) ≡ first_fault (fs ++ gs)
 unfolding told_outcome first_fault
 told_refused r n [] gs e = cc
 told_refused r n (f ∷ fs) gs e = cc
 
-pub refused_told : {f : Field} {r : Refusal} (tag : ℕ) (s : List ℕ) (gs : Faults) → f ≡ Refused r → told_field f ≡ due_of tag s
-    → told_outcome (outcome.Refused r) ≡ first_fault (due_faults tag s ++ gs)
-unfolding told_field due_of
-refused_told {f} {r} tag s gs p e = told_refused r (due_size tag s) (due_faults tag s) gs (sym (ap told_field p) ∙ e)
+pub refused_told : (r : Refusal) (tag : ℕ) (s : List ℕ) (gs : Faults) → told_field (Err r) ≡ due_of tag s
+    → told_outcome (Err r) ≡ first_fault (due_faults tag s ++ gs)
+unfolding due_of
+refused_told r tag s gs e = told_refused r (due_size tag s) (due_faults tag s) gs e

@@ -43,8 +43,8 @@ body_length_lem s w = simp (length-take, length-drop) (omega arith)
 abbrev pub optional : ℕ → Bool
 optional tag = eqb tag 4 || eqb tag 5
 
-pub either-optional : (tag : ℕ) → ((tag ≡ 4 → ⊥) × (tag ≡ 5)) ⊎ (tag ≡ 4) → optional tag ≡ true
-either-optional tag e = ⊎_elim (λ w. rw w.1) (λ w. rw w) e
+pub either-optional : (tag : ℕ) → (tag ≡ 4) ⊎ ((tag ≡ 4 → ⊥) × (tag ≡ 5)) → optional tag ≡ true
+either-optional tag e = ⊎_elim (λ w. rw w) (λ w. rw w.1) e
 
 -- One that passes is not
 pub passed_there : (tag : ℕ) (s : List ℕ) → Passed tag s → left_out tag s ≡ false

@@ -14,54 +14,42 @@ ghost use Rattle.stored_layout.specs.Layout.{due_of, Whole, Opening};
 
 use endian::{u16_at, u32_at};
 use rules::limits::FIELD_HEADER_BYTES;
-use rules::{Outcome, PolicySnapshot, Refusal, Rounding};
+use rules::{PolicySnapshot, Refusal, Rounding};
 use splice::put_bytes;
-use stored_fields::{ALLOWANCE_TAG, Field, ROUNDING_TAG, front_field};
+use stored_fields::{ALLOWANCE_TAG, ROUNDING_TAG, front_field};
 use unpacking_policy::policy_with;
 
 // Whether a tag that may be left out at the front of some bytes is: tag 4 or 5, where no such byte stands there.
 fn is_left_out(form: &[u8], tag: u8) -> bool
     ensures { result ≡ left_out tag form.now }
 {
-    if tag != ROUNDING_TAG && tag != ALLOWANCE_TAG {
-        return false;
-    }
-    if form.len() == 0 {
-        return true;
-    }
-    form[0] != tag
+    (tag == ROUNDING_TAG || tag == ALLOWANCE_TAG) && (form.is_empty() || form[0] != tag)
 }
 
-// The field with a tag at the front of some bytes; one of no bytes where it may be left out and is.
-fn due_field(form: &[u8], tag: u8) -> Field
+// How many bytes the field with a tag at the front of some bytes has; none where it may be left out and is.
+fn due_field(form: &[u8], tag: u8) -> Result<usize, Refusal>
     ensures { told_field result ≡ due_of tag form.now }
 {
     if is_left_out(form, tag) {
-        return Field::Bytes(0);
+        return Ok(0);
     }
     front_field(form, tag)
 }
 
 // Whether fields with these tags stand one after the other, then the end, and if not, why: at each field in its turn 20 for a cut
 // header, 21, 22, 20 for a cut body, and 23 or 25; then 21 for any byte after the last one. Tags 4 and 5 may be left out.
-pub fn lay_out(form: &[u8], tags: &[u8]) -> Outcome
+pub fn lay_out(form: &[u8], tags: &[u8]) -> Result<(), Refusal>
     ensures { told_outcome result ≡ first_fault (form_faults tags.now form.now) }
 {
-    let mut at = 0;
-    let mut i = 0;
-    while i < tags.len() {
-        let field = due_field(&form[at..], tags[i]);
-        let n = match field {
-            Field::Bytes(n) => n,
-            Field::Refused(refusal) => return Outcome::Refused(refusal),
-        };
-        at = at + n;
-        i += 1;
+    let mut rest = form;
+    for tag in tags {
+        let n = due_field(rest, *tag)?;
+        rest = &rest[n..];
     }
-    if at < form.len() {
-        return Outcome::Refused(Refusal::WrongTag);
+    if !rest.is_empty() {
+        return Err(Refusal::WrongTag);
     }
-    Outcome::Answered
+    Ok(())
 }
 
 // The body of the whole field at the front of some bytes, as that very part of them.
@@ -69,7 +57,7 @@ pub fn front_body(form: &[u8]) -> &[u8]
     requires { Whole form.now }
     ensures { result.now ≡ body_of form.now }
 {
-    let end = FIELD_HEADER_BYTES + u16_at(form, 1) as usize;
+    let end = FIELD_HEADER_BYTES + usize::from(u16_at(form, 1));
     &form[FIELD_HEADER_BYTES..end]
 }
 
@@ -78,7 +66,7 @@ pub fn after_front(form: &[u8]) -> &[u8]
     requires { Whole form.now }
     ensures { result.now ≡ after_of form.now }
 {
-    let end = FIELD_HEADER_BYTES + u16_at(form, 1) as usize;
+    let end = FIELD_HEADER_BYTES + usize::from(u16_at(form, 1));
     &form[end..]
 }
 
@@ -149,11 +137,10 @@ pub fn put_field(out: &mut [u8], at: usize, tag: u8, body: &[u8]) -> usize
     requires { at + (field_header_bytes + length body.now) ≤ length out.old }
     ensures { some (result, out.new) ≡ placed out.old at (field_bytes tag body.now) }
 {
-    let n = body.len();
-    let high = n / 256;
-    let header = [tag, (n % 256) as u8, (high % 256) as u8];
-    put_bytes(out, at, &header);
+    // Of the length there are two bytes, the lowest first.
+    let [low, high] = ((body.len() % 65_536) as u16).to_le_bytes();
+    put_bytes(out, at, &[tag, low, high]);
     let next = at + FIELD_HEADER_BYTES;
     put_bytes(out, next, body);
-    next + n
+    next + body.len()
 }

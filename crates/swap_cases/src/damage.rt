@@ -1,11 +1,9 @@
 // What is lent, damaged, and what the cases come to.
-ghost use Rattle.std.specs.Prelude.{◌≤◌, length};
+ghost use Rattle.std.specs.Prelude.{◌≤◌};
 
 use crate::calls::{CALLS, asked};
 use crate::owed;
 use crate::owed::has;
-use check::same;
-use splice::put_bytes;
 
 // The worked example as `unit` reads it: where its policy, models and request begin, and its end.
 pub(crate) const EXAMPLE_BYTES: usize = 203;
@@ -34,24 +32,22 @@ const PLACES: usize = 43;
 const MARK: u8 = 0xa7;
 
 // How many cases there are, how many differ, and the number of the first that does.
-#[derive(Clone, Copy)]
+#[derive(Clone, Copy, Default)]
 pub(crate) struct Told {
     pub cases: u64,
     pub different: u64,
-    pub first: u64,
+    pub first: Option<u64>,
 }
 
 // A length below its own, where that fault is among them.
 fn cut(whole: usize, faults: usize, one: usize, place: usize) -> usize
     ensures { result ≤ whole }
 {
-    if !has(faults, one) {
-        return whole;
+    if has(faults, one) {
+        whole.saturating_sub(place).saturating_sub(1)
+    } else {
+        whole
     }
-    if place < whole {
-        return whole - 1 - place;
-    }
-    0
 }
 
 // The bank's length: none from 95 to 140 is one of whole records.
@@ -59,9 +55,10 @@ fn bank_length(faults: usize, place: usize) -> usize
     ensures { result ≤ 141 }
 {
     if has(faults, owed::UNEVEN) {
-        return BANK - 1 - place % 46;
+        BANK - 1 - place % 46
+    } else {
+        BANK
     }
-    BANK
 }
 
 // A policy's bytes up to its allowance, and one more.
@@ -102,15 +99,16 @@ fn policy_length(faults: usize, place: usize) -> usize
 // The 31st byte: one that says nothing where that is among the faults, else either way to round.
 fn rounding_of(faults: usize, place: usize) -> u8 {
     if has(faults, owed::BAD_ROUNDING) {
-        return (2 + place % 254) as u8;
+        (2 + place % 254) as u8
+    } else {
+        (place % 2) as u8
     }
-    (place % 2) as u8
 }
 
 // The policy, a 31st byte, four that say an allowance, which may be 0, and one too many.
-fn policy_of(example: [u8; EXAMPLE_BYTES], faults: usize, place: usize) -> Policy {
+fn policy_of(example: [u8; EXAMPLE_BYTES], faults: usize, place: usize) -> [u8; POLICY_ROOM] {
     let mut policy = [0u8; POLICY_ROOM];
-    put_bytes(&mut policy, 0, &example[POLICY..POLICY + 30]);
+    policy[..30].copy_from_slice(&example[POLICY..POLICY + 30]);
     policy[30] = rounding_of(faults, place);
     policy[31 + place % 4] = (place % 256) as u8;
     policy
@@ -119,8 +117,8 @@ fn policy_of(example: [u8; EXAMPLE_BYTES], faults: usize, place: usize) -> Polic
 // The bank, with one byte of the free slot set where that is among the faults.
 fn bank_of(example: [u8; EXAMPLE_BYTES], faults: usize, place: usize) -> [u8; BANK] {
     let mut bank = [0u8; BANK];
-    put_bytes(&mut bank, 0, &example[MODELS..SECOND]);
-    put_bytes(&mut bank, LAST, &example[SECOND..AFTER_BANK]);
+    bank[..FREE].copy_from_slice(&example[MODELS..SECOND]);
+    bank[LAST..].copy_from_slice(&example[SECOND..AFTER_BANK]);
     if has(faults, owed::UNCLEAR) {
         bank[FREE + 4 + place % PLACES] = (1 + place % 255) as u8;
     }
@@ -134,140 +132,56 @@ fn offer_start(call: usize) -> usize
     if call < 7 { REQUEST } else { MODELS }
 }
 
-type Policy = [u8; POLICY_ROOM];
-
-type Bank = [u8; BANK];
-
-type List = [u8; 216];
-
-type Out = [u8; 183];
-
-// The word of a call that is lent so many bytes of each.
-fn asked_parts(
+// Whether a call tells the word that is owed, and leaves everything as it was.
+fn is_refused(
+    example: [u8; EXAMPLE_BYTES],
     call: usize,
-    policy: &mut [u8],
-    p: usize,
-    bank: &mut [u8],
-    b: usize,
-    offered: &[u8],
-    list: &mut [u8],
-    out: &mut [u8],
-    o: usize,
-) -> u64
-    requires { (p ≤ length policy.old) × (b ≤ length bank.old) × (o ≤ length out.old) }
-{
-    asked(
-        call,
-        &mut policy[..p],
-        &mut bank[..b],
-        offered,
-        list,
-        &mut out[..o],
-    )
-}
-
-// The same of arrays, whose lengths are known.
-fn asked_of(
-    call: usize,
-    policy: &mut Policy,
-    p: usize,
-    bank: &mut Bank,
-    b: usize,
-    offered: &[u8],
-    list: &mut List,
-    out: &mut Out,
-    o: usize,
-) -> u64
-    requires { (p ≤ 36) × (b ≤ 141) × (o ≤ 183) }
-{
-    asked_parts(call, policy, p, bank, b, offered, list, out, o)
-}
-
-fn same_policy(a: &Policy, b: &Policy) -> bool {
-    same(a, b)
-}
-
-fn same_bank(a: &Bank, b: &Bank) -> bool {
-    same(a, b)
-}
-
-fn same_list(a: &List, b: &List) -> bool {
-    same(a, b)
-}
-
-fn same_out(a: &Out, b: &Out) -> bool {
-    same(a, b)
-}
-
-// Whether a call tells what is owed, and leaves everything as it was.
-fn is_refused(example: [u8; EXAMPLE_BYTES], call: usize, faults: usize, place: usize) -> bool {
+    faults: usize,
+    place: usize,
+    word: u64,
+) -> bool {
     let mut policy = policy_of(example, faults, place);
     let mut bank = bank_of(example, faults, place);
     let mut list = [MARK; 216];
     let mut out = [MARK; 183];
-    let policy_before = policy;
-    let bank_before = bank;
-    let list_before = list;
-    let out_before = out;
+    let before = (policy, bank, list, out);
     let start = offer_start(call);
     let end = start + cut(owed::offered(call), faults, owed::SHORT_OFFER, place);
-    let p = policy_length(faults, place);
-    let b = bank_length(faults, place);
-    let o = cut(owed::needed(call), faults, owed::NO_ROOM, place);
-    let word = asked_of(
+    let told = asked(
         call,
-        &mut policy,
-        p,
-        &mut bank,
-        b,
+        &mut policy[..policy_length(faults, place)],
+        &mut bank[..bank_length(faults, place)],
         &example[start..end],
         &mut list,
-        &mut out,
-        o,
+        &mut out[..cut(owed::needed(call), faults, owed::NO_ROOM, place)],
     );
-    if word != owed::owed(call, faults) {
-        return false;
-    }
-    if !same_policy(&policy, &policy_before) || !same_bank(&bank, &bank_before) {
-        return false;
-    }
-    same_list(&list, &list_before) && same_out(&out, &out_before)
+    told == word && (policy, bank, list, out) == before
 }
 
-// One case more.
-fn noted(told: Told, number: usize, as_owed: bool) -> Told {
-    let mut now = told;
-    now.cases = now.cases.wrapping_add(1);
-    if as_owed {
-        return now;
+impl Told {
+    // One case more.
+    fn note(&mut self, number: u64, as_owed: bool) {
+        self.cases = self.cases.wrapping_add(1);
+        if !as_owed {
+            self.different = self.different.wrapping_add(1);
+            self.first = self.first.or(Some(number));
+        }
     }
-    if now.different == 0 {
-        now.first = number as u64;
-    }
-    now.different = now.different.wrapping_add(1);
-    now
 }
 
-// The case of a number: its call, its faults, and where they are.
-fn with_case(example: [u8; EXAMPLE_BYTES], told: Told, number: usize) -> Told {
-    let place = number % PLACES;
-    let faults = number / PLACES % owed::FAULTS;
-    let call = number / (PLACES * owed::FAULTS) % CALLS;
-    if owed::owed(call, faults) == 0 {
-        return told;
-    }
-    noted(told, number, is_refused(example, call, faults, place))
-}
-
-// All of them.
+// All of them. A case's number says its call, its faults, and where they are.
 pub(crate) fn every(example: [u8; EXAMPLE_BYTES]) -> Told {
-    let mut told = Told {
-        cases: 0,
-        different: 0,
-        first: 0,
-    };
+    let mut told = Told::default();
     for number in 0..CALLS * owed::FAULTS * PLACES {
-        told = with_case(example, told, number);
+        let place = number % PLACES;
+        let faults = number / PLACES % owed::FAULTS;
+        let call = number / (PLACES * owed::FAULTS);
+        if let Some(word) = owed::owed(call, faults) {
+            told.note(
+                number as u64,
+                is_refused(example, call, faults, place, word),
+            );
+        }
     }
     told
 }

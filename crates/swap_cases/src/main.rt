@@ -15,8 +15,8 @@ fn main(rt: HostRuntime) -> io::Result<()> {
     read_full(&mut rt.stdin(), &mut example)?;
     let told = damage::every(example);
     println!(rt; "{} cases, {} differ", told.cases, told.different)?;
-    if told.different != 0 {
-        println!(rt; "the first, by call, faults and place: {}", told.first)?;
+    if let Some(first) = told.first {
+        println!(rt; "the first, by call, faults and place: {first}")?;
     }
     Ok(())
 }

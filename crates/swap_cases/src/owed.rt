@@ -22,15 +22,7 @@ pub(crate) const ALLOWING: usize = 64;
 
 // Whether a set of faults has one.
 pub(crate) fn has(faults: usize, one: usize) -> bool {
-    match one {
-        1 => faults % 2 == 1,
-        2 => faults / 2 % 2 == 1,
-        4 => faults / 4 % 2 == 1,
-        8 => faults / 8 % 2 == 1,
-        16 => faults / 16 % 2 == 1,
-        32 => faults / 32 % 2 == 1,
-        _ => faults / 64 % 2 == 1,
-    }
+    faults & one != 0
 }
 
 // Finding has no request and no policy, removing and compacting have no record.
@@ -38,33 +30,34 @@ fn has_offer(call: usize) -> bool {
     call != 3 && call < 9
 }
 
-// 22 or 23 of what a call is lent beside the bank; 0 where there is neither.
-fn lent_fault(call: usize, faults: usize) -> u64 {
+// 22 or 23 of what a call is lent beside the bank.
+fn lent_fault(call: usize, faults: usize) -> Option<u64> {
     if has(faults, SHORT_OFFER) && has_offer(call) {
-        return 22;
+        return Some(22);
     }
     if call == 3 {
-        return 0;
+        return None;
     }
     if has(faults, SHORT_POLICY) {
-        return 22;
+        return Some(22);
     }
-    if has(faults, BAD_ROUNDING) { 23 } else { 0 }
+    has(faults, BAD_ROUNDING).then_some(23)
 }
 
-// The number that is owed, or 0 where none of the faults is one of the call's.
-pub(crate) fn owed(call: usize, faults: usize) -> u64 {
-    let lent = lent_fault(call, faults);
-    if lent != 0 {
-        return lent;
-    }
+// 1, 34 or 4 of the bank and the room.
+fn later_fault(faults: usize) -> Option<u64> {
     if has(faults, UNEVEN) {
-        return 1;
+        return Some(1);
     }
     if has(faults, UNCLEAR) {
-        return 34;
+        return Some(34);
     }
-    if has(faults, NO_ROOM) { 4 } else { 0 }
+    has(faults, NO_ROOM).then_some(4)
+}
+
+// The number that is owed, if one of the faults is the call's.
+pub(crate) fn owed(call: usize, faults: usize) -> Option<u64> {
+    lent_fault(call, faults).or(later_fault(faults))
 }
 
 // The room that a call's answer needs.

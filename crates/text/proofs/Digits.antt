@@ -1,6 +1,7 @@
 -- A number in decimal digits: one digit at a time, with its sign, and how many there are. Assumes nothing.
-use Rattle.rules.proofs.Kit.{ℕ, zero, suc, ◌+◌, ◌-◌, ◌*◌, ◌/◌, ◌%◌, ◌^◌, ◌≤◌, ◌<◌, ◌≡◌, refl, ap, ◌∙◌, Bool, true, false, List, [], ◌∷◌, ◌++◌, arith, pow-suc}
-use Rattle.rules.proofs.Kit.{lt-ltb, le-ltb, ltb-true, ltb-false, ltb, ℤ, pos, negsuc, length, length-append, w64, of_z, SFits}
+use Rattle.rules.proofs.Kit.{ℕ, zero, suc, ◌+◌, ◌*◌, ◌/◌, ◌%◌, ◌^◌, ◌≤◌, ◌<◌, ◌≡◌, refl, ap, ◌∙◌, Bool, true, false, List, [], ◌∷◌, ◌++◌, arith, pow-suc}
+use Rattle.rules.proofs.Kit.{lt-ltb, le-ltb, ltb-true, ltb-false, ltb, ℤ, pos, negsuc, lt_z, length, length-append}
+use Rattle.std.specs.Prelude.{unsigned_abs}
 use Rattle.rules.specs.{Choice.pick, Text.text, Text.digits_of, Text.decimal, Text.signed_decimal}
 
 -- ---- one digit at a time
@@ -64,18 +65,16 @@ decimal_twenty n h = decimal_short 19 n (omega arith)
 pub decimal_nineteen : (n : ℕ) → n ≤ 2 ^ 63 → length (decimal n) ≤ 19
 decimal_nineteen n h = decimal_short 18 n (omega arith)
 
--- ---- signed numbers, by the 64 bits that say them
+-- ---- signed numbers, by their size
 
--- BELOW 2 ^ 63 the bits are the number
-pub signed_up : (z : ℤ) (bits : ℕ) → SFits w64 z → bits ≡ of_z w64 z → bits < 2 ^ 63 → decimal bits ≡ signed_decimal z
+-- FROM 0 ON the size is the number
+pub signed_up : (z : ℤ) → lt_z z (pos 0) ≡ false → decimal (unsigned_abs z) ≡ signed_decimal z
 unfolding signed_decimal
-signed_up (pos n) bits fits e h = ap decimal e
-signed_up (negsuc n) bits fits e h = absurd (omega (arith, fits.sfits))
+signed_up (pos n) h = refl
+signed_up (negsuc n) h = (cc)
 
--- FROM 2 ^ 63 ON they are 2 ^ 64 less its size
-pub signed_down : (z : ℤ) (bits : ℕ) → SFits w64 z → bits ≡ of_z w64 z → 2 ^ 63 ≤ bits → text "-" ++ decimal (18446744073709551615 - bits + 1) ≡ signed_decimal z
-unfolding signed_decimal
-signed_down (pos n) bits fits e h = absurd (omega (arith, fits.sfits))
-signed_down (negsuc n) bits fits e h =
-    let size : 18446744073709551615 - bits + 1 ≡ suc n = omega (arith, fits.sfits) in
-    ap (λ (k : ℕ). text "-" ++ decimal k) size
+-- BELOW 0 a minus stands in front of it, the byte 45
+pub signed_down : (z : ℤ) → lt_z z (pos 0) ≡ true → (45 ∷ []) ++ decimal (unsigned_abs z) ≡ signed_decimal z
+unfolding signed_decimal text
+signed_down (pos n) h = absurd (omega (arith, ltb-true n 0 h))
+signed_down (negsuc n) h = refl

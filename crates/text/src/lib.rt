@@ -1,6 +1,8 @@
 // For other crates: numbers and lines put into a lent buffer one after the other. Each function takes a position, which must leave room,
 // and answers the next one. The text of an i64 has at most 20 bytes, as that of a u64, so that a caller can tell from the count of its
 // numbers that a buffer suffices.
+// Buffer and position are two parameters: a text goes to a part of whatever a caller lends, and a promise speaks of both, so a struct of the two
+// would be taken apart in each.
 #![tactic(auto)]
 
 ghost use Rattle.std.specs.Prelude.{◌≡◌, [], ◌∷◌, map, ◌+◌, ◌*◌, ◌≤◌, ◌<◌, length};
@@ -8,13 +10,7 @@ ghost use Rattle.rules.specs.Text.{decimal, signed_decimal, spaced, line};
 ghost use Rattle.std.proofs.Math.Option.{some};
 ghost use Rattle.splice.specs.Placed.{placed};
 
-use endian_signs::signed_bits;
 use splice::put_bytes;
-
-// The lowest pattern of 64 bits that says a negative number, and the highest one, which says -1.
-const SIGN: u64 = 9_223_372_036_854_775_808;
-
-const ALL_ONES: u64 = 18_446_744_073_709_551_615;
 
 // Puts some bytes.
 pub fn put_text(out: &mut [u8], at: usize, bytes: &[u8]) -> usize
@@ -41,7 +37,7 @@ fn digit(n: u64) -> u8
     requires { n ≤ 9 }
     ensures { result ≡ 48 + n }
 {
-    48 + n as u8
+    b'0' + n as u8
 }
 
 // Puts a number in decimal digits: those of its tenth, then its last one.
@@ -63,12 +59,11 @@ pub fn put_signed(out: &mut [u8], at: usize, n: i64) -> usize
     ensures out_after { some (result, out.new) ≡ placed out.old at (signed_decimal n) }
     ensures upper_bound { result ≤ at + 20 }
 {
-    let pattern = signed_bits(n);
-    if pattern < SIGN {
-        return put_decimal(out, at, pattern);
+    if n < 0 {
+        let next = put_text(out, at, b"-");
+        return put_decimal(out, next, n.unsigned_abs());
     }
-    let next = put_text(out, at, b"-");
-    put_decimal(out, next, (ALL_ONES - pattern) + 1)
+    put_decimal(out, at, n.unsigned_abs())
 }
 
 // Puts a space and a number.
@@ -97,12 +92,9 @@ pub fn put_words(out: &mut [u8], at: usize, ns: &[u64]) -> usize
     ensures out_after { some (result, out.new) ≡ placed out.old at (spaced (map decimal ns.now)) }
     ensures upper_bound { result ≤ at + 21 * length ns.now }
 {
-    let mut i = 0;
     let mut next = at;
-    while i < ns.len() {
-        let n = ns[i];
+    for &n in ns {
         next = put_word(out, next, n);
-        i += 1;
     }
     next
 }

@@ -7,7 +7,6 @@ ghost use Rattle.rules.specs.Limits.{record_bytes, request_bytes};
 ghost use Rattle.rules.specs.Records.{model_of, input_of};
 
 use endian::{u16_at, u32_at, u64_at};
-use endian_signs::signed;
 use rules::{KernelInput, KernelModel};
 
 mod whole;
@@ -15,6 +14,7 @@ mod whole;
 pub use whole::{input_from, model_from};
 
 // The model that a record's bytes say.
+#[tactic(auto, unfolding(rules::specs::Records::model_of), using(endian::proofs::Spelled::byte_at))]
 pub fn model_of(s: &[u8]) -> KernelModel
     requires { record_bytes ≤ length s.now }
     ensures { result ≡ model_of s.now }
@@ -34,6 +34,7 @@ pub fn model_of(s: &[u8]) -> KernelModel
 }
 
 // The request that a request's bytes say.
+#[tactic(auto, unfolding(rules::specs::Records::input_of))]
 pub fn input_of(s: &[u8]) -> KernelInput
     requires { request_bytes ≤ length s.now }
     ensures { result ≡ input_of s.now }
@@ -43,7 +44,7 @@ pub fn input_of(s: &[u8]) -> KernelInput
         requested_model_id: u32_at(s, 8),
         input_tokens: u32_at(s, 12),
         output_tokens: u32_at(s, 16),
-        business_value_microunits: signed(u64_at(s, 20)),
+        business_value_microunits: u64_at(s, 20).cast_signed(),
         budget_limit_microunits: u64_at(s, 28),
         risk_bps: u16_at(s, 36),
         confidence_bps: u16_at(s, 38),

@@ -1,4 +1,5 @@
 // A model and a request from an array of exactly their bytes: what users call, since nothing is asked of it.
+// No `From`: only `rules`, where both types stand, could give one.
 ghost use Rattle.std.specs.Prelude.{◌≡◌};
 ghost use Rattle.rules.specs.Records.{model_of, input_of};
 

@@ -13,7 +13,7 @@ ghost use Rattle.rules.specs.Stored.{policy_size_faults, policy_byte_faults, rea
 
 use endian::{u16_at, u32_at, u64_at};
 use rules::limits::{LONGEST_POLICY_BYTES, POLICY_BYTES, ROUNDED_POLICY_BYTES};
-use rules::{Outcome, PolicyRead, PolicySnapshot, Refusal, Rounding};
+use rules::{PolicySnapshot, Refusal, Rounding};
 
 // The 31st byte of a policy that rounds once. 0 is one that rounds apart, and any above is refused.
 const ONCE: u8 = 1;
@@ -82,30 +82,27 @@ fn is_longer_policy(n: usize) -> bool
 }
 
 // Whether some bytes are a policy's, and if not, why: 22, then 23.
-pub fn policy_lent_outcome(bytes: &[u8]) -> Outcome
+pub fn policy_lent_outcome(bytes: &[u8]) -> Result<(), Refusal>
     ensures { told_outcome result ≡ first_fault (policy_byte_faults bytes.now) }
 {
     let n = bytes.len();
     // Of its numbers alone nothing else is asked.
     if n == POLICY_BYTES {
-        return Outcome::Answered;
+        return Ok(());
     }
     if !is_longer_policy(n) {
-        return Outcome::Refused(Refusal::WrongLength);
+        return Err(Refusal::WrongLength);
     }
     if ONCE < rounding_byte(bytes) {
-        return Outcome::Refused(Refusal::UnknownRounding);
+        return Err(Refusal::UnknownRounding);
     }
-    Outcome::Answered
+    Ok(())
 }
 
 // The policy that some bytes say. Refused: 22, then 23.
-pub fn policy_from(bytes: &[u8]) -> PolicyRead
+pub fn policy_from(bytes: &[u8]) -> Result<PolicySnapshot, Refusal>
     ensures { told_policy result ≡ read_policy_of bytes.now }
 {
-    let outcome = policy_lent_outcome(bytes);
-    if let Outcome::Refused(refusal) = outcome {
-        return PolicyRead::Refused(refusal);
-    }
-    PolicyRead::Read(policy_of(bytes))
+    policy_lent_outcome(bytes)?;
+    Ok(policy_of(bytes))
 }

@@ -2,7 +2,8 @@
 use denote.Ref.{Bor}
 use Rattle.rules.proofs.Kit.{ℕ, List, ◌≡◌, sym, ◌∙◌}
 use Rattle.rules.specs.{Numbers.told_prescribed, View.view_of, declared.records.KernelModel.KernelModel, declared.records.KernelInput.KernelInput}
-use Rattle.rules.specs.{declared.records.PolicySnapshot.PolicySnapshot, declared.decision.Prescribed.Prescribed}
+use Rattle.rules.specs.{declared.records.PolicySnapshot.PolicySnapshot, declared.decision.KernelDecision.KernelDecision, declared.refusal.Refusal.Refusal}
+use Rattle.std.specs.Prelude.{Result}
 use Rattle.rules.proofs.Told.{one_prescribed}
 use Rattle.view.specs.declared.View.{View}
 
@@ -14,5 +15,5 @@ one_with_model bank index m r s p q =
 
 module _ (p : PolicySnapshot) (q : KernelInput) (bank : List ℕ) (index : ℕ) (m : KernelModel) where
   -- `view_decide` and `decided`
-  pub one-decided : (r s : Prescribed) → told_prescribed r ≡ view_of p q bank index m → told_prescribed s ≡ view_of p q bank index m → r ≡ s
+  pub one-decided : (r s : Result KernelDecision Refusal) → told_prescribed r ≡ view_of p q bank index m → told_prescribed s ≡ view_of p q bank index m → r ≡ s
   one-decided = one_prescribed _

@@ -1,5 +1,5 @@
 // A view: the lent bank, an index, and one model by value that stands in for the record there. It is the Rust's `with_model` without
-// the copy of the catalogue. Thin functions make a view, take it apart and call those with plain parameters.
+// the copy of the catalogue.
 #![tactic(auto)]
 
 ghost use Rattle.std.specs.Prelude.{◌≡◌, ◌≤◌, length};
@@ -14,7 +14,7 @@ use kernel_decide::decide::decide;
 use kernel_decide::stand::decide_with;
 use packing::model_bytes;
 use rules::limits::RECORD_BYTES;
-use rules::{KernelDecision, KernelInput, KernelModel, Outcome, PolicySnapshot, Prescribed};
+use rules::{KernelDecision, KernelInput, KernelModel, PolicySnapshot, Refusal};
 
 #[derive(Clone, Copy)]
 pub struct View<'a> {
@@ -38,25 +38,7 @@ fn decide_in(
     if bank.len() / RECORD_BYTES <= index {
         return decide(policy, bank, input);
     }
-    let stand = model_bytes(model);
-    decide_with(policy, bank, input, index, &stand)
-}
-
-// The same over any bank. Refused: 1, 2.
-fn decide_at(
-    policy: PolicySnapshot,
-    bank: &[u8],
-    input: KernelInput,
-    index: usize,
-    model: KernelModel,
-) -> Prescribed
-    ensures { told_prescribed result ≡ view_of policy input bank.now index model }
-{
-    let outcome = bank_outcome(bank.len());
-    if let Outcome::Refused(refusal) = outcome {
-        return Prescribed::Refused(refusal);
-    }
-    Prescribed::Decided(decide_in(policy, bank, input, index, model))
+    decide_with(policy, bank, input, index, &model_bytes(model))
 }
 
 // `with_model`: the bank with a model in the record at an index.
@@ -67,10 +49,15 @@ pub fn with_model<'a>(bank: &'a [u8], index: usize, model: KernelModel) -> View<
 }
 
 // The decision through a view. Refused: 1, 2.
-pub fn view_decide<'a>(view: View<'a>, policy: PolicySnapshot, input: KernelInput) -> Prescribed
+pub fn view_decide<'a>(
+    view: View<'a>,
+    policy: PolicySnapshot,
+    input: KernelInput,
+) -> Result<KernelDecision, Refusal>
     ensures { told_prescribed result ≡ view_of policy input view.entry.bank.now view.entry.index view.entry.model }
 {
-    decide_at(policy, view.bank, input, view.index, view.model)
+    bank_outcome(view.bank.len())?;
+    Ok(decide_in(policy, view.bank, input, view.index, view.model))
 }
 
 // The decision through a view, for callers that hold none. Refused: 1, 2.
@@ -80,7 +67,7 @@ pub fn decide_with_model(
     input: KernelInput,
     index: usize,
     model: KernelModel,
-) -> Prescribed
+) -> Result<KernelDecision, Refusal>
     ensures { told_prescribed result ≡ view_of policy input bank.now index model }
 {
     view_decide(with_model(bank, index, model), policy, input)

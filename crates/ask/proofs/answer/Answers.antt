@@ -1,5 +1,5 @@
 -- `ask::answer` meets its contract. Assumes nothing.
-use Rattle.rules.proofs.Kit.{refl, arith}
+use Rattle.rules.proofs.Kit.{arith}
 use Rattle.ask.specs.Answer.{answer_text}
 use Rattle.program_deliver.proofs.Answers.{printed-counts, printed-whole}
 use Rattle.ask.proofs.answer.Goals as goal
@@ -27,11 +27,3 @@ unfolding answer_text
 returns-in-Words-clause-out_after c =
     let u = c.ask_words.ensures in
     rw c.in-Words.is (printed-whole _ _ (omega (arith, u.2, c.requires)) u.0 u.1 c.end_of-in-Words.ensures)
-
-pub returns-in-Unclear-clause-prefix_len : goal.returns-in-Unclear-clause-prefix_len
-unfolding answer_text
-returns-in-Unclear-clause-prefix_len c = (omega arith, refl)
-
-pub returns-in-Unclear-clause-out_after : goal.returns-in-Unclear-clause-out_after
-unfolding answer_text
-returns-in-Unclear-clause-out_after c = rw c.in-Unclear.is

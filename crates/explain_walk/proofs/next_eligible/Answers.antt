@@ -1,4 +1,4 @@
--- `explain_walk::next_eligible` meets its contract. The loop's invariant: no entry passed is eligible. Assumes nothing.
+-- `explain_walk::next_eligible` meets its contract. Assumes nothing.
 use Rattle.rules.proofs.Kit.{sym, ◌∙◌}
 use Rattle.explain_walk.proofs.{Walk.verdict_byte, Walk.next_here, Walk.next-later, Walk.next-none}
 use Rattle.explain_walk.proofs.next_eligible.Goals as goal

@@ -1,32 +1,13 @@
 -- `export_batch::batch_delivered` meets its contract. Assumes nothing.
-use Rattle.rules.proofs.Kit.{refl, sym, ap, ◌∙◌, arith}
-use Rattle.rules.specs.Refused.{told_outcome}
-use Rattle.rules.proofs.Faults.{none_told}
-use Rattle.live_slots.proofs.Among.{all_read, all_among}
-use Rattle.export_checks.proofs.Handed.{both}
-use Rattle.export_batch.proofs.{Refusals.row_placeless, Refusals.row-refused, Refusals.row-passed, Refusals.passed-requests}
-use Rattle.export_batch.proofs.{Refusals.passed-policy, Refusals.passed-bank, Refusals.passed-room}
-use Rattle.rules.proofs.Arms.{not_refused}
+use Rattle.rules.proofs.Faults.{passed}
+use Rattle.export_batch.proofs.{Refusals.row_placeless, Refusals.row-refused, Refusals.row-passed}
 use Rattle.export_batch.proofs.batch_delivered.Goals as goal
 
-pub returns-in-Refused : goal.returns-in-Refused
-returns-in-Refused c =
-    let told = c.row_outcome-outcome.ensures in
-    let e = c.in-Refused.is in
-    row-refused _ _ _ _ (row_placeless _ _) e told (sym (ap told_outcome e) ∙ told) c.refusal_word.ensures
+pub returns-in-Err : goal.returns-in-Err
+returns-in-Err c = row-refused _ _ _ _ _ (row_placeless _ _) c.in-Err.ensures c.in-Err.ensures c.refusal_word.ensures
 
-pub overflow_cast-every : goal.overflow_cast-every
-overflow_cast-every c = omega (arith, passed-bank _ _ (none_told _ (not_refused c.in_default.not-Refused) c.row_outcome-outcome.ensures))
-
-pub policy_of-requires : goal.policy_of-requires
-policy_of-requires c = passed-policy _ _ (none_told _ (not_refused c.in_default.not-Refused) c.row_outcome-outcome.ensures)
-
-pub put_decisions-requires : goal.put_decisions-requires
-put_decisions-requires c =
-    let none = none_told _ (not_refused c.in_default.not-Refused) c.row_outcome-outcome.ensures in
-    (all_among _ (passed-bank _ _ none), omega (arith, passed-requests _ _ none), passed-room _ _ none)
+pub row_delivered-requires : goal.row_delivered-requires
+row_delivered-requires c = passed _ c.in_default.ensures
 
 pub returns : goal.returns
-returns c =
-    let none = none_told _ (not_refused c.in_default.not-Refused) c.row_outcome-outcome.ensures in
-    row-passed _ _ _ none (both refl (c.put_decisions.ensures ∙ rw (c.policy_of.ensures, all_read _)))
+returns c = row-passed _ _ _ (passed _ c.in_default.ensures) c.row_delivered.ensures

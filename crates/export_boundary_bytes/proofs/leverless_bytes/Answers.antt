@@ -7,9 +7,4 @@ use Rattle.export_boundary_bytes.proofs.leverless_bytes.Goals as goal
 
 pub returns : goal.returns
 returns c =
-    let w2 = c in
-    let w1 = w2 in
-    let h = w1 in
-    let u = h in
-    laid_head (replicate boundary_size 0) (told_boundaries u.args.answer) u.uncounted_bytes-alone.ensures h.head_bytes-head.ensures
-    w1.put_bytes.ensures w2.put_bytes-2.ensures (lit≤ tt)
+    laid_head (replicate boundary_size 0) (told_boundaries c.args.answer) c.uncounted_bytes.ensures c.head_bytes.ensures c.put_bytes.ensures c.put_bytes-2.ensures (lit≤ tt)

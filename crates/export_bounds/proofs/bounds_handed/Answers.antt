@@ -1,20 +1,18 @@
 -- `export_bounds::bounds_handed` meets its contract. Assumes nothing.
 use Rattle.rules.proofs.Kit.{refl, ap}
-use Rattle.rules.specs.{Refused.told_outcome, Numbers.told_boundaries, declared.refusal.Outcome.Outcome}
+use Rattle.rules.specs.{Levers.told_bounds, declared.boundary.Boundaries.Boundaries, declared.refusal.Refusal.Refusal}
+use Rattle.std.specs.Prelude.{Result}
 use Rattle.export_checks.proofs.Handed.{answer-refused, answer-delivered}
-use Rattle.export_bounds.specs.Bounds.{bounds_or, bounds_in}
+use Rattle.export_bounds.specs.Bounds.{bounds_in}
 use Rattle.export_bounds.proofs.bounds_handed.Goals as goal
 
-pub returns-in-Refused : goal.returns-in-Refused
-unfolding bounds_in told_outcome
-returns-in-Refused c =
-    let b = told_boundaries c.args.answer in
-    answer-refused _ _ _ _ refl (ap (λ (o : Outcome). bounds_or (told_outcome o) b) c.in-Refused.is) c.refusal_word.ensures
+pub returns-in-Err : goal.returns-in-Err
+unfolding bounds_in
+returns-in-Err c =
+    let told = ap (λ (r : Result Boundaries Refusal). bounds_in (told_bounds r)) c.in-Err.is in
+    answer-refused _ _ _ _ refl told c.refusal_word.ensures
 
-pub returns-in-Answered : goal.returns-in-Answered
-unfolding bounds_in told_outcome
-returns-in-Answered c =
-    let b = told_boundaries c.args.answer in
-    let hand = c.hand_bytes.ensures in
-    let told = ap (λ (o : Outcome). bounds_or (told_outcome o) b) c.in-Answered.is in
-    answer-delivered _ _ _ _ refl told (rw c.boundary_bytes-bytes.ensures at hand)
+pub returns-in-Ok : goal.returns-in-Ok
+unfolding bounds_in
+returns-in-Ok c =
+    answer-delivered _ _ _ _ refl (rw c.in-Ok.is) (rw c.boundary_bytes.ensures at c.hand_bytes.ensures)

@@ -11,7 +11,7 @@ unfolding decision_bytes
 returns c =
     let a = c.args in
     let n = a.trace.rejections in
-    let l0 = laid_decision (replicate decision_size 0) (told_decision a.decision) c.uncounted_bytes-alone.ensures c.put_bytes.ensures in
+    let l0 = laid_decision (replicate decision_size 0) (told_decision a.decision) c.uncounted_bytes.ensures c.put_bytes.ensures in
     let l1 = laid_more l0 65 2 n.disabled c.put16.ensures refl (lit≤ tt) in
     let l2 = laid_more l1 67 2 n.quality c.put16-2.ensures refl (lit≤ tt) in
     let l3 = laid_more l2 69 2 n.risk_ceiling c.put16-3.ensures refl (lit≤ tt) in

@@ -1,25 +1,21 @@
 -- `export_edits::compact_delivered` meets its contract. Assumes nothing.
 use Rattle.rules.proofs.Kit.{◌∙◌}
-use Rattle.rules.proofs.Faults.{none_told}
-use Rattle.export_edits.proofs.Leaving.{left-refused, left-edited, stock-policy, stock-long, stock-room}
+use Rattle.rules.proofs.Faults.{passed}
+use Rattle.export_edits.proofs.Leaving.{left_refused, left_edited, stock_policy, stock_long, stock_room}
 use Rattle.export_edits.proofs.compact_delivered.Goals as goal
 
-pub returns-in-Refused : goal.returns-in-Refused
-returns-in-Refused c =
-    left-refused _ _ _ _ _ c.in-Refused.is c.stock_outcome-outcome.ensures c.refusal_word.ensures
+pub returns-in-Err : goal.returns-in-Err
+returns-in-Err c = left_refused _ _ _ _ _ _ c.in-Err.ensures c.refusal_word.ensures
 
 pub policy_of-requires : goal.policy_of-requires
-policy_of-requires c = stock-policy _ _ (none_told _ c.in_default.is c.stock_outcome-outcome.ensures)
+policy_of-requires c = stock_policy _ _ (passed _ c.in_default.ensures)
 
 pub edited_handed-requires : goal.edited_handed-requires
-edited_handed-requires c =
-    let none = none_told _ c.in_default.is c.stock_outcome-outcome.ensures in
-    (stock-long _ _ none, stock-room _ _ none)
+edited_handed-requires c = let none = passed _ c.in_default.ensures in (stock_long _ _ none, stock_room _ _ none)
 
 pub returns : goal.returns
 returns c =
-    let none = none_told _ c.in_default.is c.stock_outcome-outcome.ensures in
-    left-edited _ _ _ _ _ none
+    left_edited _ _ _ _ _ (passed _ c.in_default.ensures)
     (c.compact-edited.ensures.answer ∙ rw c.policy_of.ensures)
     c.edited_handed.ensures.answer
     c.edited_handed.ensures.epoch

@@ -1,8 +1,9 @@
 -- `export_live_calls::live_explain_delivered` meets its contract. Assumes nothing.
-use Rattle.rules.proofs.Kit.{ℕ, List, [], ◌≡◌, sym, ◌∙◌, arith}
+use Rattle.rules.proofs.Kit.{ℕ, List, [], ◌≡◌, refl, sym, ◌∙◌, arith}
 use Rattle.rules.specs.{Records.Listed, Explain.explain_over, Explain.explain_list_over, Slots.live_faults, Slots.live_in, Live.live_explain_of, Live.live_explain_list}
 use Rattle.rules.specs.{declared.records.KernelInput.KernelInput, declared.records.PolicySnapshot.PolicySnapshot}
 use Rattle.rules.proofs.Faults.{unless_refused}
+use Rattle.live_slots.proofs.Told.{number_refused}
 use Rattle.explain.specs.Entries.{unrefused}
 use Rattle.export_checks.proofs.{Handed.both, Handed.tests-refused, Handed.tests-passed}
 use Rattle.export_live_checks.proofs.{Openings.passed}
@@ -18,36 +19,28 @@ module _ (p : PolicySnapshot) (q : KernelInput) (bank list : List ℕ) {ls : Lis
   unfolding live_explain_list
   listed = rw (read, clean)
 
-pub returns-in-Refused : goal.returns-in-Refused
-returns-in-Refused c =
-    let tests = c.live_call_outcome-slots.ensures.outcome in
+pub returns-in-Err : goal.returns-in-Err
+returns-in-Err c =
+    let tests = number_refused _ _ _ c.in-Err.ensures in
     both
-    (tests-refused _ _ _ _ c.in-Refused.is tests c.refusal_word.ensures)
-    (sym (unless_refused _ _ _ c.in-Refused.is tests))
+    (tests-refused _ _ _ _ _ tests c.refusal_word.ensures)
+    (sym (unless_refused _ _ _ refl tests))
 
 pub policy_of-requires : goal.policy_of-requires
-policy_of-requires c =
-    let is = passed _ _ _ c.in_default.is (c.live_call_outcome-slots.ensures.outcome, c.live_call_outcome-slots.ensures.live) in
-    is.policy
+policy_of-requires c = let is = passed _ _ _ _ c.in-Ok.ensures in is.policy
 
 pub input_of-requires : goal.input_of-requires
-input_of-requires c =
-    let is = passed _ _ _ c.in_default.is (c.live_call_outcome-slots.ensures.outcome, c.live_call_outcome-slots.ensures.live) in
-    is.request
+input_of-requires c = let is = passed _ _ _ _ c.in-Ok.ensures in is.request
 
 pub explain_among-prescribed-requires : goal.explain_among-prescribed-requires
-explain_among-prescribed-requires c =
-    let is = passed _ _ _ c.in_default.is (c.live_call_outcome-slots.ensures.outcome, c.live_call_outcome-slots.ensures.live) in
-    is.seen
+explain_among-prescribed-requires c = let is = passed _ _ _ _ c.in-Ok.ensures in is.seen
 
 pub decision_handed-requires : goal.decision_handed-requires
-decision_handed-requires c =
-    let is = passed _ _ _ c.in_default.is (c.live_call_outcome-slots.ensures.outcome, c.live_call_outcome-slots.ensures.live) in
-    omega (arith, is.space)
+decision_handed-requires c = let is = passed _ _ _ _ c.in-Ok.ensures in omega (arith, is.space)
 
-pub returns : goal.returns
-returns c =
-    let is = passed _ _ _ c.in_default.is (c.live_call_outcome-slots.ensures.outcome, c.live_call_outcome-slots.ensures.live) in
+pub returns-in-Ok : goal.returns-in-Ok
+returns-in-Ok c =
+    let is = passed _ _ _ _ c.in-Ok.ensures in
     let known = c.explain_among-prescribed.ensures in
     both
     (tests-passed _ _ _ _ is.clear (known.answer ∙ rw (c.policy_of.ensures, c.input_of.ensures) (told _ _ _ _ is.clean is.read))

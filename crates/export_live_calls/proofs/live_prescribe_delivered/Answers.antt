@@ -1,27 +1,22 @@
 -- `export_live_calls::live_prescribe_delivered` meets its contract. Assumes nothing.
-use Rattle.rules.proofs.Kit.{◌∙◌, arith}
-use Rattle.rules.proofs.Faults.{none_told}
+use Rattle.rules.proofs.Kit.{ap, ◌∙◌, arith}
+use Rattle.rules.specs.Refused.{answered}
+use Rattle.live_slots.proofs.Told.{number_refused, number_passed}
 use Rattle.export_checks.proofs.Handed.{tests-refused, tests-passed}
-use Rattle.export_live_checks.proofs.{Openings.passed}
+use Rattle.export_live_checks.proofs.Openings.{passed}
 use Rattle.export_live_calls.proofs.live_prescribe_delivered.Goals as goal
 
-pub returns-in-Refused : goal.returns-in-Refused
-returns-in-Refused c =
-    tests-refused _ _ _ _ c.in-Refused.is c.live_call_outcome-slots.ensures.outcome c.refusal_word.ensures
+pub returns-in-Err : goal.returns-in-Err
+returns-in-Err c = tests-refused _ _ _ _ _ (number_refused _ _ _ c.in-Err.ensures) c.refusal_word.ensures
 
 pub traced_live-requires : goal.traced_live-requires
-traced_live-requires c =
-    let is = passed _ _ _ c.in_default.is (c.live_call_outcome-slots.ensures.outcome, c.live_call_outcome-slots.ensures.live) in
-    (is.policy, is.request, is.seen)
+traced_live-requires c = let is = passed _ _ _ _ c.in-Ok.ensures in (is.policy, is.request, is.seen)
 
 pub traced_handed-requires : goal.traced_handed-requires
-traced_handed-requires c =
-    let is = passed _ _ _ c.in_default.is (c.live_call_outcome-slots.ensures.outcome, c.live_call_outcome-slots.ensures.live) in
-    omega (arith, is.space)
+traced_handed-requires c = let is = passed _ _ _ _ c.in-Ok.ensures in omega (arith, is.space)
 
-pub returns : goal.returns
-returns c =
-    let tests = c.live_call_outcome-slots.ensures in
-    let is = passed _ _ _ c.in_default.is (tests.outcome, tests.live) in
-    tests-passed _ _ _ _ (none_told _ c.in_default.is tests.outcome) (c.traced_live.ensures ∙ rw is.read)
-    c.traced_handed.ensures
+pub returns-in-Ok : goal.returns-in-Ok
+returns-in-Ok c =
+    let is = passed _ _ _ _ c.in-Ok.ensures in
+    let tests = number_passed _ _ _ c.in-Ok.ensures in
+    tests-passed _ _ _ _ tests.0 (ap answered (c.traced_live.ensures ∙ rw is.read)) c.traced_handed.ensures

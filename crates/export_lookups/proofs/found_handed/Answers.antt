@@ -1,18 +1,18 @@
 -- `export_lookups::found_handed` meets its contract. Assumes nothing.
-use Rattle.rules.proofs.Kit.{refl, ap}
-use Rattle.rules.specs.Numbers.{told_found}
-use Rattle.export_checks.proofs.Handed.{delivered_so, answer-refused, answer-delivered}
+use Rattle.rules.proofs.Kit.{ℕ, ◌≡◌, refl, ap, ◌∙◌}
+use Rattle.rules.specs.Numbers.{told_found, told_option}
+use Rattle.std.specs.Prelude.{Option, Some, None, unwrap_or}
+use Rattle.export_checks.proofs.Handed.{delivered_so, answer-delivered}
+use Rattle.export_lookups.specs.Lookups.{place_or}
 use Rattle.export_lookups.proofs.found_handed.Goals as goal
 
-pub returns-in-Refused : goal.returns-in-Refused
-returns-in-Refused c = answer-refused _ _ _ _ refl (ap told_found c.in-Refused.is) c.refusal_word.ensures
+-- nowhere is told as 65,535
+place_told : (place : Option ℕ) → unwrap_or place 65535 ≡ place_or (told_option place)
+place_told None = refl
+place_told (Some n) = refl
 
-pub returns-in-At : goal.returns-in-At
-returns-in-At c =
-    let told = ap told_found c.in-At.is in
-    answer-delivered _ _ _ _ refl told (delivered_so _ _ c.put16.ensures)
-
-pub returns-in-Nowhere : goal.returns-in-Nowhere
-returns-in-Nowhere c =
-    let told = ap told_found c.in-Nowhere.is in
-    answer-delivered _ _ _ _ refl told (delivered_so _ _ c.put16-in-Nowhere.ensures)
+pub returns-in-Ok : goal.returns-in-Ok
+returns-in-Ok c =
+    let bytes = c.put16.ensures in
+    answer-delivered _ _ _ _ refl (ap told_found c.in-Ok.is)
+    (rw (c.unwrap_or.ensures ∙ place_told c.in-Ok.place) at (delivered_so _ _ bytes))

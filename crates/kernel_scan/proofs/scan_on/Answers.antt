@@ -1,6 +1,5 @@
 -- `kernel_scan::scan_on` meets its contract. The loop's invariant: what is held is what the first i records come to, from the state at the start.
 -- Assumes nothing.
-use Rattle.rules.proofs.Kit.{rules}
 use Rattle.rules.proofs.Kit.{ℕ, arith, ◌≡◌, refl, sym, ap, ◌∙◌}
 use Rattle.pricing_terms.specs.declared.ScoredTerms.{ScoredTerms}
 use Rattle.rules.specs.declared.records.KernelModel.{KernelModel}
@@ -21,38 +20,32 @@ stays (NonPositive t) s place m k = refl
 stays (Eligible t) s place m k = absurd (k t refl)
 
 pub loop-i-init : goal.loop-i-init
-loop-i-init c = (search rules, sym (scan-none _ _ _))
+loop-i-init c = sym (scan-none _ _ _)
 
-pub counted-counts-requires : goal.counted-counts-requires
-counted-counts-requires c =
+pub counted-state-requires : goal.counted-state-requires
+counted-state-requires c =
     let l = c.loop-i in
-    omega (arith, scan-held _ _ _ _ _ _ _ l.invariant.1 l.invariant.0)
+    omega (arith, scan-held _ _ _ _ _ _ _ l.invariant (omega arith))
 
 pub loop-i-preserved-in_default : goal.loop-i-preserved-in_default
 loop-i-preserved-in_default c =
-    let l = c.loop-i in (
-      omega arith,
-      rw c.counted-counts.ensures
-          (stays _ _ _ _ c.in_default.not-Eligible ∙
-          scan_step _ _ _ _ _ _ _ l.invariant.1 _ _ c.loop-i-test.true c.model_at-model.ensures c.verdict_of-verdict.ensures),
-    )
-
-pub overflow_add-eligible : goal.overflow_add-eligible
-overflow_add-eligible c =
     let l = c.loop-i in
-    omega (arith, scan-held _ _ _ _ _ _ _ l.invariant.1 l.invariant.0)
+    rw c.counted-state.ensures
+    (stays _ _ _ _ c.in_default.not-Eligible ∙
+    scan_step _ _ _ _ _ _ _ l.invariant _ _ c.loop-i-test.true c.model_at-model.ensures c.verdict_of-verdict.ensures)
+
+pub overflow_add-state : goal.overflow_add-state
+overflow_add-state c =
+    let l = c.loop-i in
+    omega (arith, scan-held _ _ _ _ _ _ _ l.invariant (omega arith))
 
 pub loop-i-preserved : goal.loop-i-preserved
 unfolding state_after state_entered
 loop-i-preserved c =
-    let l = c.loop-i in (
-      omega arith,
-      rw (c.ranked-top.ensures, c.entered.ensures)
-          (ap (state_after _ _ _) (sym c.in-Eligible.is) ∙
-          scan_step _ _ _ _ _ _ _ l.invariant.1 _ _ c.loop-i-test.true c.model_at-model.ensures c.verdict_of-verdict.ensures),
-    )
+    let l = c.loop-i in
+    rw (c.ranked-state.ensures, c.entered.ensures)
+    (ap (state_after _ _ _) (sym c.in-Eligible.is) ∙
+    scan_step _ _ _ _ _ _ _ l.invariant _ _ c.loop-i-test.true c.model_at-model.ensures c.verdict_of-verdict.ensures)
 
 pub returns : goal.returns
-returns c =
-    let l = c.loop-i in
-    scan-end _ _ _ _ _ l.i _ l.invariant.1 (omega arith)
+returns c = let l = c.loop-i in scan-end _ _ _ _ _ l.i _ l.invariant (omega arith)

@@ -1,29 +1,20 @@
--- `limbs::without` meets its contract: the rest and b make a, limb by limb or with a carry, which here is borrowed.
--- Assumes nothing.
-use Rattle.rules.proofs.Kit.{◌≡◌, ℕ, ◌+◌, ◌-◌, ◌<◌, arith}
-use Rattle.limbs.proofs.{Limbs.in_limbs, Limbs.upper-le, Limbs.upper-less, Limbs.sum-plain, Limbs.sum-carry}
+-- `limbs::without` meets its contract, with what is borrowed from the upper limb. Assumes nothing.
+use Rattle.rules.proofs.Kit.{◌+◌, ◌≤◌, arith}
+use Rattle.limbs.proofs.{Limbs.in_limbs, Limbs.rest_room, Limbs.rest}
 use Rattle.limbs.proofs.without.Goals as goal
-use Rattle.limbs.proofs.without.Goals.{Else-bl-al}
+use Rattle.limbs.proofs.without.Goals.{After-from}
 
-rest-is : (a b r : ℕ) → a ≡ r + b → r ≡ a - b
-rest-is a b r e = omega arith
+room : (c : After-from) → c.args.b.hi + c.from.result ≤ c.args.a.hi
+room c =
+    let s = c.args in
+    let r = c.borrowing_sub-lo in
+    rest_room in_limbs s.a.hi s.a.lo s.b.hi s.b.lo c.from.result r.result.0 (omega (arith, r.type_inv)) (omega arith) c.requires
 
-borrows : (c : Else-bl-al) → c.args.b.hi < c.args.a.hi
-borrows c = let s = c.args in upper-less in_limbs s.a.hi s.a.lo s.b.hi s.b.lo c.if-bl-al.false c.requires
+pub overflow_add-hi : goal.overflow_add-hi
+overflow_add-hi c = omega (arith, room c.before)
 
-pub overflow_sub-result : goal.overflow_sub-result
-overflow_sub-result c = let s = c.args in upper-le in_limbs s.a.hi s.a.lo s.b.hi s.b.lo (omega arith) c.requires
-
-pub returns-then-bl-al : goal.returns-then-bl-al
-returns-then-bl-al c =
-    let s = c.args in rest-is _ _ _ (sum-plain in_limbs _ _ s.b.hi s.b.lo s.a.hi s.a.lo (omega (arith, overflow_sub-result c)) (omega arith))
-
-pub overflow_sub-result-2 : goal.overflow_sub-result-2
-overflow_sub-result-2 c = omega (arith, borrows c)
-
-pub overflow_sub-result-3 : goal.overflow_sub-result-3
-overflow_sub-result-3 c = omega (arith, borrows c)
+pub overflow_sub-hi : goal.overflow_sub-hi
+overflow_sub-hi c = omega (arith, room c.before.before)
 
 pub returns : goal.returns
-returns c =
-    let s = c.args in rest-is _ _ _ (sum-carry in_limbs _ _ s.b.hi s.b.lo s.a.hi s.a.lo (omega (arith, borrows c)) (omega arith))
+returns c = rest in_limbs _ _ _ _ c.from.result _ _ (omega (arith, room c.before.before)) (omega arith)

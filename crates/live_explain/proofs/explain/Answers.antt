@@ -1,31 +1,31 @@
 -- `live_explain::explain` meets its contract. Assumes nothing.
-use Rattle.rules.proofs.Kit.{sym, ap, ◌∙◌}
-use Rattle.rules.specs.{Refused.refused, Listing.Reading, Explain.explain_over, Explain.explain_list_over, Slots.live_records, Live.live_explain_of}
-use Rattle.rules.specs.{Live.live_explain_list}
-use Rattle.rules.proofs.Faults.{none_told, unless_none}
-use Rattle.live_slots.proofs.Among.{live-read, live-among}
+use Rattle.rules.proofs.Kit.{ap, ◌∙◌}
+use Rattle.rules.specs.{Listing.Reading, Explain.explain_over, Explain.explain_list_over, Slots.live_records, Live.live_explain_of, Live.live_explain_list}
+use Rattle.live_slots.proofs.{Among.live-read, Among.live-among, Told.number_refused, Told.number_passed}
 use Rattle.explain.proofs.Readings.{reading_refused, reading_passed}
-use Rattle.rules.proofs.Arms.{not_refused}
 use Rattle.live_explain.proofs.explain.Goals as goal
 
-pub returns-in-Refused : goal.returns-in-Refused
+pub returns-in_err-live : goal.returns-in_err-live
 unfolding live_explain_of live_explain_list
-returns-in-Refused c =
+returns-in_err-live c =
     let a = c.args in
-    let live = live_records a.bank.now in
-    let list = a.list.now in record { answer = sym (reading_refused _ _ live list refused _ c.in-Refused.is c.read_slots-slots.ensures.outcome); bytes = sym (reading_refused _ _ live list (λ f. list) _ c.in-Refused.is c.read_slots-slots.ensures.outcome) }
+    let first = number_refused _ _ _ c.in_err-live.ensures in
+    let told = reading_refused _ _ a.policy a.input (live_records a.bank.now) a.list.now c.from_residual.ensures.1 first in
+    record { answer = told.0; bytes = told.1 }
 
 pub explain_among-requires : goal.explain_among-requires
 explain_among-requires c =
-    let none = none_told _ (not_refused c.in_default.not-Refused) c.read_slots-slots.ensures.outcome in
-    live-among _ none _ (c.read_slots-slots.ensures.live ∙ unless_none _ _ _ none)
+    let read = number_passed _ _ _ c.in_ok-live.ensures in
+    live-among _ read.0 _ read.1
 
 pub returns : goal.returns
 unfolding live_explain_of live_explain_list
 returns c =
     let a = c.args in
-    let bank = a.bank.now in
     let list = a.list.now in
-    let none = none_told _ (not_refused c.in_default.not-Refused) c.read_slots-slots.ensures.outcome in
-    let live = live-read bank none _ (c.read_slots-slots.ensures.live ∙ unless_none _ _ _ none) in
-    let read = reading_passed (live_records bank) _ none live in record { answer = c.explain_among.ensures.answer ∙ ap (λ (b : Reading). explain_over a.policy a.input b list) read; bytes = c.explain_among.ensures.bytes ∙ ap (λ (b : Reading). explain_list_over a.policy a.input b list) read }
+    let read = number_passed _ _ _ c.in_ok-live.ensures in
+    let its = reading_passed (live_records a.bank.now) _ read.0 (live-read a.bank.now read.0 _ read.1) in
+    record {
+      answer = c.explain_among.ensures.answer ∙ ap (λ (b : Reading). explain_over a.policy a.input b list) its;
+      bytes = c.explain_among.ensures.bytes ∙ ap (λ (b : Reading). explain_list_over a.policy a.input b list) its;
+    }

@@ -1,21 +1,32 @@
 -- `program_input::program_outcome` meets its contract. Assumes nothing.
-use Rattle.program_input.proofs.{Tests.formed_whole, Tests.formed_refused, Tests.program_told}
-use Rattle.rules.proofs.Faults.{none_told}
+use Rattle.rules.proofs.Kit.{sym, ap, ◌∙◌}
+use Rattle.rules.specs.Refused.{first_fault}
+use Rattle.program_input.proofs.{Tests.formed_whole, Tests.formed_refused, Tests.program_left}
+use Rattle.rules.proofs.Faults.{exit_outcome, passed}
 use Rattle.program_input.proofs.program_outcome.Goals as goal
 
-pub returns-in-Refused : goal.returns-in-Refused
-returns-in-Refused c = formed_refused _ c.in-Refused.is c.formed_outcome-formed.ensures
+pub returns-in_err-formed_outcome : goal.returns-in_err-formed_outcome
+returns-in_err-formed_outcome c = formed_refused _ _ _ c.from_residual.ensures.1 c.in_err-formed_outcome.ensures
 
 pub policy_in-requires : goal.policy_in-requires
-policy_in-requires c = formed_whole _ (none_told _ c.in_default.is c.formed_outcome-formed.ensures)
+policy_in-requires c = formed_whole _ (passed _ c.in_ok-formed_outcome.ensures)
 
 pub bank_in-requires : goal.bank_in-requires
-bank_in-requires c = formed_whole _ (none_told _ c.in_default.is c.formed_outcome-formed.ensures)
+bank_in-requires c = formed_whole _ (passed _ c.in_ok-formed_outcome.ensures)
+
+pub returns-in_err-catalog_outcome : goal.returns-in_err-catalog_outcome
+returns-in_err-catalog_outcome c =
+    exit_outcome _ _ _ _ c.from_residual-in_err-catalog_outcome.ensures.1 c.in_err-catalog_outcome.ensures
+    ∙ ap first_fault (sym (program_left _ (passed _ c.in_ok-formed_outcome.ensures) c.policy_in.ensures c.bank_in.ensures))
 
 pub request_in-requires : goal.request_in-requires
-request_in-requires c = formed_whole _ (none_told _ c.in_default.is c.formed_outcome-formed.ensures)
+request_in-requires c = formed_whole _ (passed _ c.in_ok-formed_outcome.ensures)
 
 pub returns : goal.returns
 returns c =
-    program_told _ (none_told _ c.in_default.is c.formed_outcome-formed.ensures) c.policy_in.ensures c.bank_in.ensures
-    c.request_in.ensures c.catalog_outcome-valid.ensures c.input_outcome-clear.ensures c.first_refused.ensures
+    rw (
+      program_left _ (passed _ c.in_ok-formed_outcome.ensures) c.policy_in.ensures c.bank_in.ensures,
+      passed _ c.in_ok-catalog_outcome.ensures,
+      ← c.request_in.ensures,
+    )
+    c.input_outcome.ensures

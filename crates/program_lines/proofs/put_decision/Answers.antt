@@ -15,7 +15,7 @@ returns c =
     let d = c.args.decision in
     let f : SFits w64 d.counterfactual_utility_microunits = record { sfits = search rules } in
     record {
-      out_after = promised_as (written_then (written_then (written_then (written_then (written _ _ _ p.out_after) (written _ _ _ q.out_after)) (written _ _ _ r.out_after))
+      out_after = promised_as (written_then (written_then (written_then (written_then (written _ _ _ p.out_after) (written _ _ _ (rw c.from.ensures at q.out_after))) (written _ _ _ r.out_after))
           (written _ _ _ s.out_after)) t) (decision_joins (told_decision d) (to_z-of_z w64 _ f));
       upper_bound = omega (arith, p.upper_bound, q.upper_bound, r.upper_bound, s.upper_bound, t.ends);
     }

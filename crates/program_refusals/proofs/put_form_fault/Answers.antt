@@ -1,48 +1,37 @@
 -- `program_refusals::put_form_fault` meets its contract. Assumes nothing.
-use Rattle.rules.proofs.Kit.{ap, sym, arith}
+use Rattle.rules.proofs.Kit.{arith}
 use Rattle.rules.specs.{Choice.equal, Text.text}
 use Rattle.splice.proofs.Pieces.{written, written_none, promised_as}
 use Rattle.program_refusals.specs.Parts.{form_words}
-use Rattle.program_refusals.proofs.{Joins.no_form}
+use Rattle.program_refusals.proofs.{Joins.formed_as, Joins.no_form}
 use Rattle.program_refusals.proofs.put_form_fault.Goals as goal
 
-pub returns-in-19-clause-out_after : goal.returns-in-19-clause-out_after
+pub returns-in-TooManyForProgram-clause-out_after : goal.returns-in-TooManyForProgram-clause-out_after
 unfolding form_words equal text
-returns-in-19-clause-out_after c =
-    let w = c.put_sentence.ensures in
-    promised_as (written _ _ _ w.out_after) (ap form_words (sym c.in-19.is))
+returns-in-TooManyForProgram-clause-out_after c = promised_as (written _ _ _ c.put_sentence.ensures.out_after) (formed_as c.in-TooManyForProgram.is)
 
-pub returns-in-20-clause-out_after : goal.returns-in-20-clause-out_after
+pub returns-in-CutShort-clause-out_after : goal.returns-in-CutShort-clause-out_after
 unfolding form_words equal text
-returns-in-20-clause-out_after c =
-    let w = c.put_sentence-in-20.ensures in
-    promised_as (written _ _ _ w.out_after) (ap form_words (sym c.in-20.is))
+returns-in-CutShort-clause-out_after c = promised_as (written _ _ _ c.put_sentence-in-CutShort.ensures.out_after) (formed_as c.in-CutShort.is)
 
-pub returns-in-21-clause-out_after : goal.returns-in-21-clause-out_after
+pub returns-in-WrongTag-clause-out_after : goal.returns-in-WrongTag-clause-out_after
 unfolding form_words equal text
-returns-in-21-clause-out_after c =
-    let w = c.put_sentence-in-21.ensures in
-    promised_as (written _ _ _ w.out_after) (ap form_words (sym c.in-21.is))
+returns-in-WrongTag-clause-out_after c = promised_as (written _ _ _ c.put_sentence-in-WrongTag.ensures.out_after) (formed_as c.in-WrongTag.is)
 
-pub returns-in-22-clause-out_after : goal.returns-in-22-clause-out_after
+pub returns-in-WrongLength-clause-out_after : goal.returns-in-WrongLength-clause-out_after
 unfolding form_words equal text
-returns-in-22-clause-out_after c =
-    let w = c.put_sentence-in-22.ensures in
-    promised_as (written _ _ _ w.out_after) (ap form_words (sym c.in-22.is))
+returns-in-WrongLength-clause-out_after c = promised_as (written _ _ _ c.put_sentence-in-WrongLength.ensures.out_after) (formed_as c.in-WrongLength.is)
 
-pub returns-in-23-clause-out_after : goal.returns-in-23-clause-out_after
+pub returns-in-UnknownRounding-clause-out_after : goal.returns-in-UnknownRounding-clause-out_after
 unfolding form_words equal text
-returns-in-23-clause-out_after c =
-    let w = c.put_sentence-in-23.ensures in
-    promised_as (written _ _ _ w.out_after) (ap form_words (sym c.in-23.is))
+returns-in-UnknownRounding-clause-out_after c = promised_as (written _ _ _ c.put_sentence-in-UnknownRounding.ensures.out_after) (formed_as c.in-UnknownRounding.is)
 
-pub returns-in-25-clause-out_after : goal.returns-in-25-clause-out_after
+pub returns-in-ZeroAllowance-clause-out_after : goal.returns-in-ZeroAllowance-clause-out_after
 unfolding form_words equal text
-returns-in-25-clause-out_after c =
-    let w = c.put_sentence-in-25.ensures in
-    promised_as (written _ _ _ w.out_after) (ap form_words (sym c.in-25.is))
+returns-in-ZeroAllowance-clause-out_after c = promised_as (written _ _ _ c.put_sentence-in-ZeroAllowance.ensures.out_after) (formed_as c.in-ZeroAllowance.is)
 
 pub returns-in_default-clause-out_after : goal.returns-in_default-clause-out_after
 returns-in_default-clause-out_after c =
+    let d = c.in_default in
     promised_as (written_none _ _ (omega arith))
-    (no_form (omega arith) (omega arith) (omega arith) (omega arith) (omega arith) (omega arith))
+    (no_form c.args.refusal d.not-TooManyForProgram d.not-CutShort d.not-WrongTag d.not-WrongLength d.not-UnknownRounding d.not-ZeroAllowance)

@@ -7,7 +7,5 @@ use Rattle.program_refusals.proofs.put_range_sentence.Goals as goal
 pub returns-clause-out_after : goal.returns-clause-out_after
 unfolding text
 returns-clause-out_after c =
-    let p = c.put_about-next.ensures in
-    let q = c.put_range-end.ensures in
     let r = written _ _ _ c.put_byte.ensures.out_after in
-    promised_as (written_then (written_then (written _ _ _ p.out_after) (written _ _ _ q.out_after)) r) (model_joins _ _)
+    promised_as (written_then (written_then (written _ _ _ (rw c.from.ensures at c.put_about-next.ensures.out_after)) (written _ _ _ c.put_range-end.ensures.out_after)) r) (model_joins _ _)

@@ -7,7 +7,6 @@ use Rattle.program_refusals.proofs.put_too_many.Goals as goal
 pub returns-clause-out_after : goal.returns-clause-out_after
 unfolding text
 returns-clause-out_after c =
-    let p = c.put_about-next.ensures in
     let q = written _ _ _ c.put_text-end.ensures.out_after in
     let r = written _ _ _ c.put_text.ensures.out_after in
-    promised_as (written_then (written_then (written _ _ _ p.out_after) q) r) (too_many_joins _ _ _)
+    promised_as (written_then (written_then (written _ _ _ (rw c.from.ensures at c.put_about-next.ensures.out_after)) q) r) (too_many_joins _ _ _)

@@ -15,6 +15,6 @@ returns c =
     let o = c.put_fall_up-next.ensures in
     let boundary = c.args.boundary in record {
       out_after = promised_as (written_then (written_then (written_then (written_then (written _ _ _ o.out_after) (written _ _ _ p.out_after)) q) (written _ _ _ r.out_after)) s)
-          (ap (λ (n : ℕ). fall_up boundary ++ percent n ++ text ", to " ++ percent boundary ++ text " of today's") c.fall.ensures);
+          (ap (λ (n : ℕ). fall_up boundary ++ percent n ++ text ", to " ++ percent boundary ++ text " of today's") c.saturating_sub.ensures);
       upper_bound = omega (arith, o.upper_bound, p.upper_bound, q.ends, r.upper_bound, s.ends);
     }

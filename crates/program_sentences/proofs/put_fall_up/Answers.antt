@@ -12,6 +12,6 @@ returns c =
     let q = c.put_percent_up-told.ensures in
     let r = written _ _ _ c.put_text.ensures.out_after in record {
       out_after = promised_as (written_then (written_then p (written _ _ _ q.out_after)) r)
-          (ap (λ (n : ℕ). text "Price alone: it must fall by " ++ percent_up n ++ text " or more; exactly, by ") c.fall.ensures);
+          (ap (λ (n : ℕ). text "Price alone: it must fall by " ++ percent_up n ++ text " or more; exactly, by ") c.saturating_sub.ensures);
       upper_bound = omega (arith, p.ends, q.upper_bound, r.ends);
     }

@@ -1,46 +1,19 @@
--- `program_sentences::put_lever_words` meets its contract. Assumes nothing.
-use Rattle.rules.proofs.Kit.{arith}
-use Rattle.rules.specs.Text.{text}
-use Rattle.splice.proofs.Pieces.{written_none, written, promised_as}
-use Rattle.program_sentences.proofs.{Joins.first-lever, Joins.second-lever, Joins.third-lever, Joins.fourth-lever, Joins.fifth-lever}
+-- `program_sentences::put_lever_words` meets its contract: the price has no sentence here, and who is none of the four is the switch. Assumes nothing.
+use Rattle.rules.proofs.Kit.{arith, ne_eqb}
+use Rattle.rules.specs.{Choice.equal, Text.text, Words.lever_words, Words.rise_words}
+use Rattle.splice.proofs.Pieces.{written_none, promised}
 use Rattle.program_sentences.proofs.put_lever_words.Goals as goal
 
-pub returns-then-lever-eq1 : goal.returns-then-lever-eq1
-unfolding text
-returns-then-lever-eq1 c =
-    let w = c.put_rise.ensures in record {
-      out_after = promised_as (written _ _ _ w.out_after) (first-lever _ c.if-lever-eq1.true);
-      upper_bound = omega (arith, w.upper_bound);
-    }
+pub returns-in-3-clause-out_after : goal.returns-in-3-clause-out_after
+unfolding lever_words equal
+returns-in-3-clause-out_after c = rw c.in-3.is (promised (written_none _ _ (omega arith)))
 
-pub returns-then-lever-eq2 : goal.returns-then-lever-eq2
-returns-then-lever-eq2 c =
-    let w = c.put_latency.ensures in record {
-      out_after = promised_as (written _ _ _ w.out_after) (second-lever _ c.if-lever-eq1.false c.if-lever-eq2.true);
-      upper_bound = omega (arith, w.upper_bound);
-    }
+pub returns-in-4-clause-out_after : goal.returns-in-4-clause-out_after
+unfolding lever_words rise_words equal text
+returns-in-4-clause-out_after c = rw c.in-4.is c.put_rise-in-4.ensures.out_after
 
-pub returns-then-lever-eq3 : goal.returns-then-lever-eq3
-returns-then-lever-eq3 c = record {
-  out_after = promised_as (written_none _ _ (omega (arith, c.requires)))
-      (third-lever _ c.if-lever-eq1.false c.if-lever-eq2.false c.if-lever-eq3.true);
-  upper_bound = omega arith;
-}
-
-pub returns-then-lever-eq4 : goal.returns-then-lever-eq4
-unfolding text
-returns-then-lever-eq4 c =
-    let w = c.put_rise-then-lever-eq4.ensures in record {
-      out_after = promised_as (written _ _ _ w.out_after)
-          (fourth-lever _ c.if-lever-eq1.false c.if-lever-eq2.false c.if-lever-eq3.false c.if-lever-eq4.true);
-      upper_bound = omega (arith, w.upper_bound);
-    }
-
-pub returns : goal.returns
-unfolding text
-returns c =
-    let w = c.put_sentence.ensures in record {
-      out_after = promised_as (written _ _ _ w.out_after)
-          (fifth-lever _ c.if-lever-eq1.false c.if-lever-eq2.false c.if-lever-eq3.false c.if-lever-eq4.false);
-      upper_bound = omega (arith, w.value);
-    }
+pub returns-in_default-clause-out_after : goal.returns-in_default-clause-out_after
+unfolding lever_words equal text
+returns-in_default-clause-out_after c =
+    let n = c.args.lever.lever in
+    simp (ne_eqb n 1 (omega arith), ne_eqb n 2 (omega arith), ne_eqb n 3 (omega arith), ne_eqb n 4 (omega arith)) c.put_sentence.ensures.out_after

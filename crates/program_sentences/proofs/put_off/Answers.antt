@@ -5,13 +5,13 @@ use Rattle.splice.proofs.Pieces.{written_then, written, promised_as}
 use Rattle.program_sentences.proofs.{Joins.off_none, Joins.off_some}
 use Rattle.program_sentences.proofs.put_off.Goals as goal
 
-pub returns-then-levers-eq0 : goal.returns-then-levers-eq0
+pub returns-then-asked-eq0 : goal.returns-then-asked-eq0
 unfolding text
-returns-then-levers-eq0 c =
+returns-then-asked-eq0 c =
     let p = c.put_unsearched-next.ensures in
     let q = c.put_sentence.ensures in record {
       out_after = promised_as (written_then (written _ _ _ p.out_after) (written _ _ _ q.out_after))
-          (off_none (told_boundaries c.args.asked) c.if-levers-eq0.true);
+          (off_none (told_boundaries c.args.asked) c.if-asked-eq0.true);
       upper_bound = omega (arith, p.upper_bound, q.value);
     }
 
@@ -21,6 +21,6 @@ returns c =
     let p = c.put_unsearched-next.ensures in
     let q = c.put_levers_words.ensures in record {
       out_after = promised_as (written_then (written _ _ _ p.out_after) (written _ _ _ q.out_after))
-          (off_some (told_boundaries c.args.asked) c.if-levers-eq0.false);
+          (off_some (told_boundaries c.args.asked) c.if-asked-eq0.false);
       upper_bound = omega (arith, p.upper_bound, q.upper_bound);
     }

@@ -6,5 +6,5 @@ use Rattle.program_words.proofs.put_already.Goals as goal
 pub returns : goal.returns
 unfolding already_words of_model text
 returns c =
-    promised (written_then (written _ _ _ c.put_remark-next.ensures.out_after)
+    promised (written_then (written _ _ _ (rw c.from.ensures at c.put_remark-next.ensures.out_after))
     (written _ _ _ c.put_unsearched.ensures.out_after))

@@ -4,17 +4,18 @@ use Rattle.stored_fields.proofs.{OneField.field-length, OneField.field-short, On
 use Rattle.stored_fields.proofs.headed_field.Goals as goal
 
 pub returns-then-not-fits : goal.returns-then-not-fits
-returns-then-not-fits c = field-length _ _ c.requires _ c.u16_at-n.ensures (sym c.fits.ensures ∙ c.if-not-fits.true)
+returns-then-not-fits c = field-length _ _ c.requires _ (c.from-n.ensures ∙ c.u16_at.ensures) (sym c.if-not-fits.ensures)
 
-pub returns-in-Refused : goal.returns-in-Refused
-returns-in-Refused c =
-    field-refused _ _ c.requires _ c.u16_at-n.ensures (sym c.fits.ensures ∙ c.if-not-fits.false) c.if-size-form.true c.body_outcome.ensures
-    c.in-Refused.is
+pub returns-then-form-size : goal.returns-then-form-size
+returns-then-form-size c =
+    field-short _ _ c.requires _ (c.from-n.ensures ∙ c.u16_at.ensures) (sym c.if-not-fits.ensures) c.if-form-size.true
 
-pub returns-in-Answered : goal.returns-in-Answered
-returns-in-Answered c =
-    field-whole _ _ c.requires _ c.u16_at-n.ensures (sym c.fits.ensures ∙ c.if-not-fits.false) c.if-size-form.true c.body_outcome.ensures
-    c.in-Answered.is
+pub returns-in_err-body_outcome : goal.returns-in_err-body_outcome
+returns-in_err-body_outcome c =
+    field-refused _ _ c.requires _ (c.from-n.ensures ∙ c.u16_at.ensures) (sym c.if-not-fits.ensures) c.if-form-size.false
+    _ _ c.from_residual.ensures.1 c.in_err-body_outcome.ensures
 
 pub returns : goal.returns
-returns c = field-short _ _ c.requires _ c.u16_at-n.ensures (sym c.fits.ensures ∙ c.if-not-fits.false) c.if-size-form.false
+returns c =
+    field-whole _ _ c.requires _ (c.from-n.ensures ∙ c.u16_at.ensures) (sym c.if-not-fits.ensures) c.if-form-size.false
+    c.in_ok-body_outcome.ensures

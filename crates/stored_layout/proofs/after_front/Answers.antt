@@ -5,4 +5,4 @@ use Rattle.stored_layout.proofs.after_front.Goals as goal
 
 pub returns : goal.returns
 unfolding after_of
-returns c = rw (to_end, c.u16_at.ensures)
+returns c = rw (to_end, c.from-end.ensures, c.u16_at.ensures)

@@ -5,4 +5,4 @@ use Rattle.stored_layout.proofs.front_body.Goals as goal
 
 pub returns : goal.returns
 unfolding body_of
-returns c = rw (add-sub_cancel_left, c.u16_at.ensures)
+returns c = rw (add-sub_cancel_left, c.from-end.ensures, c.u16_at.ensures)

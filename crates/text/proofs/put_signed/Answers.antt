@@ -1,42 +1,32 @@
--- `text::put_signed` meets its contract. Assumes nothing.
-use Rattle.rules.proofs.Kit.{ℕ, ◌+◌, ◌-◌, ◌≡◌, ap, ◌∙◌, List, ◌++◌, arith, w64, of_z, ℤ, SFits, to_z}
-use Rattle.rules.specs.Text.{decimal}
-use Rattle.endian_signs.proofs.Signs.{signed_bits}
+-- `text::put_signed` meets its contract: a size has at most 19 digits. Assumes nothing.
+use Rattle.rules.proofs.Kit.{ℕ, ap, ◌∙◌, [], ◌∷◌, ◌++◌, arith, w64, to_z-of_z}
+use Rattle.rules.specs.Text.{decimal, signed_decimal}
 use Rattle.splice.proofs.Pieces.{written_then, written, promised_as}
-use Rattle.text.proofs.{Digits.decimal_twenty, Digits.decimal_nineteen, Digits.signed_up, Digits.signed_down, Words.minus_text}
+use Rattle.text.proofs.{Digits.decimal_nineteen, Digits.signed_up, Digits.signed_down}
 use Rattle.text.proofs.put_signed.Goals as goal
 
--- the number passed on is the one that came in
-pattern : {bits : ℕ} (n : ℤ) → SFits w64 n → bits ≡ of_z w64 (to_z w64 (of_z w64 n)) → bits ≡ of_z w64 n
-pattern n fits e = e ∙ ap (of_z w64) (signed_bits n fits)
-
--- a pattern below 2^63 has at most 20 digits, and the size of another one 19
 pub put_decimal-requires : goal.put_decimal-requires
-put_decimal-requires c = omega (arith, decimal_twenty c.signed_bits-pattern.result (omega arith))
+put_decimal-requires c = omega (arith, decimal_nineteen _ c.unsigned_abs.ensures.bound)
 
-pub returns-then-pattern-lt-SIGN-clause-out_after : goal.returns-then-pattern-lt-SIGN-clause-out_after
-returns-then-pattern-lt-SIGN-clause-out_after c =
-    promised_as (written _ _ _ c.put_decimal.ensures)
-    (signed_up c.args.n _ c.ranges.n (pattern c.args.n c.ranges.n c.signed_bits-pattern.ensures) c.if-pattern-lt-SIGN.true)
+pub returns-then-n-lt0-clause-out_after : goal.returns-then-n-lt0-clause-out_after
+returns-then-n-lt0-clause-out_after c =
+    promised_as (written_then (written _ _ _ c.put_text-next.ensures.out_after) (written _ _ _ c.put_decimal.ensures))
+    (ap (λ (n : ℕ). (45 ∷ []) ++ decimal n) c.unsigned_abs.ensures.value
+    ∙ signed_down _ c.if-n-lt0.true
+    ∙ ap signed_decimal (to_z-of_z w64 _ c.ranges.n))
 
-pub returns-then-pattern-lt-SIGN-clause-upper_bound : goal.returns-then-pattern-lt-SIGN-clause-upper_bound
-returns-then-pattern-lt-SIGN-clause-upper_bound c =
-    omega (arith, (written _ _ _ c.put_decimal.ensures).ends, decimal_twenty c.signed_bits-pattern.result (omega arith))
+pub returns-then-n-lt0-clause-upper_bound : goal.returns-then-n-lt0-clause-upper_bound
+returns-then-n-lt0-clause-upper_bound c =
+    omega (arith, (written _ _ _ c.put_decimal.ensures).ends, decimal_nineteen _ c.unsigned_abs.ensures.bound)
 
 pub put_decimal-requires-2 : goal.put_decimal-requires-2
-put_decimal-requires-2 c =
-    omega (arith, c.put_text-next.auto.out, decimal_nineteen (18446744073709551615 - c.signed_bits-pattern.result + 1) (omega arith))
+put_decimal-requires-2 c = omega (arith, decimal_nineteen _ c.unsigned_abs-2.ensures.bound)
 
 pub returns-clause-out_after : goal.returns-clause-out_after
 returns-clause-out_after c =
-    promised_as (written_then (written _ _ _ c.put_text-next.ensures.out_after) (written _ _ _ c.put_decimal-2.ensures))
-    (ap (λ (m : List ℕ). m ++ decimal (18446744073709551615 - c.signed_bits-pattern.result + 1)) minus_text
-    ∙ signed_down c.args.n _ c.ranges.n (pattern c.args.n c.ranges.n c.signed_bits-pattern.ensures) c.if-pattern-lt-SIGN.false)
+    promised_as (written _ _ _ c.put_decimal-2.ensures)
+    (ap decimal c.unsigned_abs-2.ensures.value ∙ signed_up _ c.if-n-lt0.false ∙ ap signed_decimal (to_z-of_z w64 _ c.ranges.n))
 
 pub returns-clause-upper_bound : goal.returns-clause-upper_bound
 returns-clause-upper_bound c =
-    omega (
-      arith,
-      (written _ _ _ c.put_decimal-2.ensures).ends,
-      decimal_nineteen (18446744073709551615 - c.signed_bits-pattern.result + 1) (omega arith),
-    )
+    omega (arith, (written _ _ _ c.put_decimal-2.ensures).ends, decimal_nineteen _ c.unsigned_abs-2.ensures.bound)

@@ -16,4 +16,4 @@ returns c =
     let good = c.well_formed.1.1.1.1.0 in
     let fits : Fitting (model_fields c.args.model) = search rules in
     c.decide_with.ensures ∙ ap (decision_of _ _)
-    (stands-inside _ _ _ fits c.model_bytes-stand.ensures)
+    (stands-inside _ _ _ fits c.model_bytes.ensures)

@@ -1,17 +1,22 @@
 -- `batch::live::prescribe_batch` meets its contract: it reads the live records and passes on. Assumes nothing.
-use Rattle.rules.specs.{Slots.live_records, Live.live_batch_of, Live.live_batch_row}
-use Rattle.batch_checks.specs.Read.{read_of}
-use Rattle.batch_checks.proofs.Readings.{live-ones-read}
-use Rattle.batch.proofs.{Alike.filled-alike}
+use Rattle.rules.proofs.Kit.{refl, length-map}
+use Rattle.rules.specs.Live.{live_batch_of, live_batch_row}
+use Rattle.rules.proofs.Faults.{append_refused}
+use Rattle.live_slots.proofs.Told.{number_refused}
+use Rattle.kernel_among.proofs.Lives.{slots_clean, slots-among, slots_read}
+use Rattle.batch.proofs.Batches.{refused_both}
 use Rattle.batch.proofs.live.prescribe_batch.Goals as goal
 
+pub returns-in_err-many : goal.returns-in_err-many
+unfolding live_batch_of live_batch_row
+returns-in_err-many c =
+    rw length-map
+    (refused_both _ _ _ _ _ c.from_residual.ensures.1 (append_refused _ _ refl (number_refused _ _ _ c.in_err-many.ensures)))
+
 pub batch_over-requires : goal.batch_over-requires
-batch_over-requires c = (live-ones-read c.args.bank.now _ c.live_records-read.ensures).0
+batch_over-requires c = slots-among _ _ c.in_ok-many.ensures
 
 pub returns : goal.returns
 unfolding live_batch_of live_batch_row
 returns c =
-    let a = c.args in
-    let r = c.live_records-read in
-    filled-alike a.policy (read_of r.result a.bank.now) (live_records a.bank.now) (live-ones-read a.bank.now r.result r.ensures).1 a.inputs.now a.row.now _ _
-    c.batch_over.ensures
+    rw (slots_clean _ _ c.in_ok-many.ensures, ← slots_read _ _ c.in_ok-many.ensures) c.batch_over.ensures

@@ -1,16 +1,14 @@
--- `batch::over::batch_checked_over` meets its contract: a bad request comes after the tests of a batch, and without one it is a batch. Assumes nothing.
-use Rattle.rules.proofs.Kit.{sym, ◌∙◌}
-use Rattle.batch.proofs.{Batches.checked_refused, Batches.checked-fine}
+-- `batch::over::batch_checked_over` meets its contract. Assumes nothing.
+use Rattle.rules.proofs.Kit.{length-map}
+use Rattle.rules.proofs.Faults.{none_first, passed, room_passed}
+use Rattle.batch.proofs.{Batches.refused_both, Batches.answered_both}
 use Rattle.batch.proofs.over.batch_checked_over.Goals as goal
 
-pub returns-then-is_refused : goal.returns-then-is_refused
-returns-then-is_refused c =
-    let a = c.args in
-    checked_refused a.policy a.read a.bank.now a.inputs.now a.row.now _ c.first_bad-bad.ensures (sym c.is_refused.ensures ∙ c.if-is_refused.true) _
-    c.checked_batch_outcome.ensures
+pub returns-in_err-checked_outcome : goal.returns-in_err-checked_outcome
+returns-in_err-checked_outcome c = rw length-map (refused_both _ _ _ _ _ c.from_residual.ensures.1 c.in_err-checked_outcome.ensures)
+
+pub fill-requires-clause-room : goal.fill-requires-clause-room
+fill-requires-clause-room c = room_passed _ _ (none_first _ _ (passed _ c.in_ok-checked_outcome.ensures))
 
 pub returns : goal.returns
-returns c =
-    let a = c.args in
-    checked-fine a.policy a.read a.bank.now a.inputs.now a.row.now _ c.first_bad-bad.ensures (sym c.is_refused.ensures ∙ c.if-is_refused.false) _ _
-    c.batch_over.ensures
+returns c = rw (length-map, passed _ c.in_ok-checked_outcome.ensures) (answered_both _ _ _ c.fill.ensures)

@@ -1,25 +1,19 @@
 -- `batch::over::first_bad` meets its contract: the first request that is refused is told, with its place. Assumes nothing.
-use Rattle.rules.proofs.Kit.{sym, ap, ◌∙◌, refl, arith}
-use Rattle.rules.specs.Refused.{first_fault}
+use Rattle.rules.proofs.Kit.{sym, ap, ◌∙◌}
+use Rattle.rules.specs.Refused.{first_fault, told_outcome}
+use Rattle.rules.proofs.Faults.{exit_outcome, passed}
 use Rattle.batch.proofs.{Testing.bad-none, Testing.bad-here, Testing.bad-next}
 use Rattle.batch.proofs.over.first_bad.Goals as goal
 
-pub loop-at-init : goal.loop-at-init
-loop-at-init c = (omega arith, refl)
+pub returns-in_err-input_outcome : goal.returns-in_err-input_outcome
+returns-in_err-input_outcome c =
+    exit_outcome _ _ _ _ c.from_residual.ensures.1 c.in_err-input_outcome.ensures
+    ∙ ap first_fault (sym (c.loop-place.invariant ∙ bad-here _ c.loop-place.place _ c.loop-place-test.true))
 
-pub returns-then-is_refused : goal.returns-then-is_refused
-returns-then-is_refused c =
-    let l = c.loop-at in
-    bad-here c.args.inputs.now l.at _ _ c.loop-at-test.true c.input_outcome-outcome.ensures (sym c.is_refused.ensures ∙ c.if-is_refused.true)
-    ∙ ap first_fault l.invariant.1
-
-pub loop-at-preserved : goal.loop-at-preserved
-loop-at-preserved c =
-    let l = c.loop-at in (
-      omega arith,
-      sym (bad-next c.args.inputs.now l.at _ _ c.loop-at-test.true c.input_outcome-outcome.ensures (sym c.is_refused.ensures ∙ c.if-is_refused.false))
-          ∙ l.invariant.1,
-    )
+pub loop-place-preserved : goal.loop-place-preserved
+loop-place-preserved c =
+    c.loop-place.invariant ∙ bad-next _ c.loop-place.place _ c.loop-place-test.true (passed _ c.in_ok-input_outcome.ensures)
 
 pub returns : goal.returns
-returns c = bad-none c.args.inputs.now c.loop-at.at (omega arith) ∙ ap first_fault c.loop-at.invariant.1
+unfolding first_fault told_outcome
+returns c = rw (c.loop-place.invariant ∙ bad-none _ c.loop-place.place c.loop-place-test.false)

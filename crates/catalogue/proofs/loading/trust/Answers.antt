@@ -1,14 +1,20 @@
 -- `catalogue::trust` meets its contract: refused before the ordering, or validated after it. Assumes nothing.
-use Rattle.catalogue.proofs.{Trusting.refused-early, Trusting.ordered-whole, Trusting.validated-after}
+use Rattle.rules.proofs.Kit.{refl, sym}
+use Rattle.rules.proofs.Faults.{early_whole, exit_outcome, passed, unless_refused}
+use Rattle.rules.specs.Trust.{trust_of, trust_bank}
 use Rattle.catalogue.proofs.loading.trust.Goals as goal
 
-pub returns-in-Refused : goal.returns-in-Refused
-returns-in-Refused c = refused-early _ _ c.early_outcome-early.ensures _ c.in-Refused.is
+pub returns-in_err-early_outcome : goal.returns-in_err-early_outcome
+unfolding trust_of trust_bank
+returns-in_err-early_outcome c =
+    let told = c.in_err-early_outcome.ensures in
+    (exit_outcome _ _ _ _ c.from_residual.ensures.1 told, sym (unless_refused _ _ _ refl told))
 
-pub ordered_outcome-outcome-requires : goal.ordered_outcome-outcome-requires
-ordered_outcome-outcome-requires c = ordered-whole _ _ c.early_outcome-early.ensures c.in_default.is
+pub order-requires : goal.order-requires
+order-requires c = early_whole _ (passed _ c.in_ok-early_outcome.ensures)
 
 pub returns : goal.returns
+unfolding trust_of trust_bank
 returns c =
-    validated-after _ _ c.early_outcome-early.ensures c.in_default.is _ _ _ c.ordered_outcome-outcome.ensures.0
-    c.ordered_outcome-outcome.ensures.1
+    rw (passed _ c.in_ok-early_outcome.ensures)
+    (rw c.order.ensures at c.catalog_outcome.ensures, c.order.ensures)

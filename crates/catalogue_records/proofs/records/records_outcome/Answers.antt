@@ -1,27 +1,21 @@
--- `catalogue_records::records_outcome` meets its contract. The loop's invariant: no record passed is refused. Assumes nothing.
+-- `catalogue_records::records_outcome` meets its contract. Assumes nothing.
 use Rattle.rules.proofs.Kit.{arith, ap, sym, ◌∙◌}
 use Rattle.rules.specs.{Refused.first_fault, Refused.told_outcome}
-use Rattle.rules.proofs.Faults.{append_refused, none_told}
-use Rattle.rules.proofs.Arms.{not_refused}
+use Rattle.rules.proofs.Faults.{exit_outcome, passed}
 use Rattle.catalogue_records.proofs.{Walks.records-next, Walks.records-end}
 use Rattle.catalogue_records.proofs.records.records_outcome.Goals as goal
 
-pub returns-in-Refused : goal.returns-in-Refused
-returns-in-Refused c =
-    let l = c.loop-i in
-    let e = c.in-Refused.is in
-    append_refused _ _ e c.record_outcome-outcome.ensures ∙ ap first_fault (sym (l.invariant.2 ∙ records-next _ l.i (omega arith)))
+pub returns-in_err-record_outcome : goal.returns-in_err-record_outcome
+returns-in_err-record_outcome c =
+    let l = c.loop-place in
+    exit_outcome _ _ _ _ c.from_residual.ensures.1 c.in_err-record_outcome.ensures
+    ∙ ap first_fault (sym (l.invariant ∙ records-next _ l.place c.loop-place-test.true))
 
-pub loop-i-preserved : goal.loop-i-preserved
-loop-i-preserved c =
-    let l = c.loop-i in (
-      omega arith,
-      l.invariant.1,
-      l.invariant.2 ∙ records-next _ l.i (omega arith) ∙ rw (none_told _ (not_refused c.in_default.not-Refused) c.record_outcome-outcome.ensures),
-    )
+pub loop-place-preserved : goal.loop-place-preserved
+loop-place-preserved c =
+    let l = c.loop-place in
+    l.invariant ∙ records-next _ l.place c.loop-place-test.true ∙ rw (passed _ c.in_ok-record_outcome.ensures)
 
 pub returns : goal.returns
 unfolding first_fault told_outcome
-returns c =
-    let l = c.loop-i in
-    rw (l.invariant.2 ∙ records-end _ l.i (omega arith))
+returns c = rw (c.loop-place.invariant ∙ records-end _ c.loop-place.place (omega arith))

@@ -10,19 +10,19 @@ use Rattle.counterfactual_four_levers.proofs.margin.margin_levers.Goals as goal
 -- ---- each lever's values fit its field
 pub lowest_true-by_quality-requires : goal.lowest_true-by_quality-requires
 unfolding widest equal
-lowest_true-by_quality-requires c = record { settled = c.held_from-held.ensures.4; within = omega arith }
+lowest_true-by_quality-requires c = omega arith
 
 pub highest_below-by_latency-requires : goal.highest_below-by_latency-requires
 unfolding widest equal
-highest_below-by_latency-requires c = (omega arith, record { settled = c.held_from-held.ensures.4; within = omega arith })
+highest_below-by_latency-requires c = omega arith
 
 pub highest_below-by_price-requires : goal.highest_below-by_price-requires
 unfolding widest equal
-highest_below-by_price-requires c = (omega arith, record { settled = c.held_from-held.ensures.4; within = omega arith })
+highest_below-by_price-requires c = omega arith
 
 pub lowest_above-by_ceiling-requires : goal.lowest_above-by_ceiling-requires
 unfolding widest equal
-lowest_above-by_ceiling-requires c = (omega arith, record { settled = c.held_from-held.ensures.4; within = omega arith })
+lowest_above-by_ceiling-requires c = omega arith
 
 -- ---- the passes are few
 pub noted_levers-requires : goal.noted_levers-requires
@@ -38,11 +38,8 @@ noted_levers-requires c =
 pub returns : goal.returns
 unfolding margin_levers question_in
 returns c =
-    let q = c.request_held-request.ensures in
-    let m = c.model_held-varied.ensures in
-    let n = c.held_from-held.ensures in
     four_sought_lem _ c.noted_levers.ensures c.price_cost-cost.ensures
-    (searched-so _ _ c.requires _ _ _ q m n Lowest 1 _ _ c.lowest_true-by_quality.ensures)
-    (after-so _ _ c.requires _ _ _ q m n Highest 2 _ _ c.highest_below-by_latency.ensures)
-    (after-so _ _ c.requires _ _ _ q m n Highest 3 _ _ c.highest_below-by_price.ensures)
-    (after-so _ _ c.requires _ _ _ q m n Lowest 4 _ _ c.lowest_above-by_ceiling.ensures)
+    (searched-so _ _ c.requires c.new-held.result c.new-held.ensures Lowest 1 _ _ c.lowest_true-by_quality.ensures)
+    (after-so _ _ c.requires c.new-held.result c.new-held.ensures Highest 2 _ _ c.highest_below-by_latency.ensures)
+    (after-so _ _ c.requires c.new-held.result c.new-held.ensures Highest 3 _ _ c.highest_below-by_price.ensures)
+    (after-so _ _ c.requires c.new-held.result c.new-held.ensures Lowest 4 _ _ c.lowest_above-by_ceiling.ensures)

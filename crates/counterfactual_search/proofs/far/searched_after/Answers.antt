@@ -1,18 +1,15 @@
 -- `counterfactual_search::searched_after` meets its contract. Assumes nothing.
-use Rattle.rules.proofs.Kit.{arith, sym, ◌∙◌}
-use Rattle.counterfactual_search.proofs.{Searches.search-few, Halves.far-won, Halves.far-late}
-use Rattle.counterfactual_search.specs.Search.{side_of}
+use Rattle.rules.proofs.Kit.{arith, sym, ap, ◌∙◌}
+use Rattle.rules.specs.Halving.{later_by}
+use Rattle.rules.proofs.Halvings.{margin-none, margin-some}
+use Rattle.counterfactual_search.proofs.{Searches.search-few}
 use Rattle.counterfactual_search.proofs.far.searched_after.Goals as goal
 
-pub returns-then-wins_on : goal.returns-then-wins_on
-returns-then-wins_on c =
-    far-won (side_of c.args.highest) _ _ _ c.far_end-far.ensures (sym c.wins_on.ensures ∙ c.if-wins_on.true)
+pub returns-then-wins : goal.returns-then-wins
+returns-then-wins c = sym (margin-none _ _ _ _ (rw (← c.far_end.ensures) (sym c.if-wins.ensures)))
 
-pub one_later-requires : goal.one_later-requires
-one_later-requires c =
-    omega (arith, search-few (side_of c.args.highest) _ _ _ c.searched.ensures (omega arith))
+pub overflow_add-found : goal.overflow_add-found
+overflow_add-found c = omega (arith, search-few _ _ _ _ c.searched-found.ensures (omega arith))
 
 pub returns : goal.returns
-returns c =
-    far-late (side_of c.args.highest) _ _ _ c.far_end-far.ensures (sym c.wins_on.ensures ∙ c.if-wins_on.false)
-    c.one_later.ensures c.searched.ensures
+returns c = ap (later_by 1) c.searched-found.ensures ∙ sym (margin-some _ _ _ _ (rw (← c.far_end.ensures) (sym c.if-wins.ensures)))

@@ -34,6 +34,6 @@ returns c =
     let list = a.list.now in
     let enough = room_enough _ (length list) (rw (its-length a.policy a.input a.many a.bank.now c.requires c.needed.ensures) at c.if-list-needed.false) in
     record {
-      answer = ap answered c.decide_among-decided.ensures.decision ∙ sym (unless_none _ refused _ enough);
+      answer = ap answered c.decision_among.ensures ∙ sym (unless_none _ refused _ enough);
       bytes = c.put_explanation.ensures ∙ sym (unless_none _ (λ f. list) _ enough);
     }

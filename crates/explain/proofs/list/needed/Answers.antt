@@ -3,8 +3,8 @@ use Rattle.rules.proofs.Kit.{sym}
 use Rattle.explain.proofs.{Stopped.stopped-bytes, Stopped.open-bytes}
 use Rattle.explain.proofs.list.needed.Goals as goal
 
-pub returns-in-By : goal.returns-in-By
-returns-in-By c = sym (stopped-bytes _ _ c.stopped_by-stop.ensures _ c.in-By.is)
+pub returns-then-is_some : goal.returns-then-is_some
+returns-then-is_some c = sym (stopped-bytes _ _ _ c.stopped_by.ensures _ c.if-is_some.ensures)
 
 pub returns : goal.returns
-returns c = sym (open-bytes _ _ c.stopped_by-stop.ensures _ c.in_default.is)
+returns c = rw c.from.ensures (sym (open-bytes _ _ _ c.stopped_by.ensures _ c.if-is_some.ensures))

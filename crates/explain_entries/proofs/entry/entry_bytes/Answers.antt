@@ -1,6 +1,6 @@
 -- `explain_entries::entry_bytes` meets its contract: each write fills in one more field. Assumes nothing.
 use Rattle.rules.proofs.Kit.{rules}
-use Rattle.rules.proofs.Kit.{◌≡◌, refl, ap, ◌∙◌, arith, lit≤, replicate, length-set, w64, of_z, to_z-of_z}
+use Rattle.rules.proofs.Kit.{◌≡◌, refl, arith, lit≤, replicate, length-set, w64, of_z}
 use Rattle.rules.specs.{Limits.explanation_bytes, Wide.val, Explain.explanation_record}
 use Rattle.endian_writing.proofs.Stored.{byte_patch}
 use Rattle.packing.proofs.Packing.{laid_none, laid_more, laid_all}
@@ -12,7 +12,7 @@ returns c =
     let a = c.args in
     let n = a.told in
     -- the utility goes in as its 64 bits
-    let utility : c.signed_bits.result ≡ of_z w64 n.utility = c.signed_bits.ensures ∙ ap (of_z w64) (to_z-of_z w64 n.utility (search rules)) in
+    let utility : c.cast_unsigned.result ≡ of_z w64 n.utility = search rules in
     let l0 = laid_none (replicate explanation_bytes 0) in
     let l1 = laid_more l0 0 4 a.model.model_id c.put32.ensures refl (lit≤ tt) in
     let l2 = laid_more l1 4 2 a.place c.put16.ensures refl (lit≤ tt) in

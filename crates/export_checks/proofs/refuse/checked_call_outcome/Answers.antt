@@ -1,20 +1,13 @@
 -- `export_checks::checked_call_outcome` meets its contract. Assumes nothing.
-use Rattle.rules.proofs.Kit.{sym, ap, ◌∙◌}
-use Rattle.rules.specs.{Refused.first_fault, Decide.request_faults}
-use Rattle.rules.proofs.Faults.{append-passed, append_refused, none_told}
+use Rattle.rules.proofs.Faults.{exit_outcome, passed}
 use Rattle.export_checks.proofs.{Tests.call-request}
 use Rattle.export_checks.proofs.refuse.checked_call_outcome.Goals as goal
 
-pub returns-in-Refused : goal.returns-in-Refused
-returns-in-Refused c = append_refused _ _ c.in-Refused.is c.call_outcome-outcome.ensures
+pub returns-in_err-call_outcome : goal.returns-in_err-call_outcome
+returns-in_err-call_outcome c = exit_outcome _ _ _ _ c.from_residual.ensures.1 c.in_err-call_outcome.ensures
 
 pub input_of-input-requires : goal.input_of-input-requires
-input_of-input-requires c =
-    let is = call-request _ _ _ (none_told _ c.in_default.is c.call_outcome-outcome.ensures) in
-    is
+input_of-input-requires c = call-request _ _ _ (passed _ c.in_ok-call_outcome.ensures)
 
 pub returns : goal.returns
-returns c =
-    c.input_outcome.ensures
-    ∙ ap (λ q. first_fault (request_faults q 0)) c.input_of-input.ensures
-    ∙ sym (append-passed _ _ c.in_default.is c.call_outcome-outcome.ensures)
+returns c = rw (passed _ c.in_ok-call_outcome.ensures, ← c.input_of-input.ensures) c.input_outcome.ensures

@@ -1,18 +1,16 @@
 -- `kernel::prescribe_checked` meets its contract. Assumes nothing.
-use Rattle.rules.proofs.Kit.{sym, ap, ◌∙◌}
-use Rattle.rules.proofs.Faults.{unless-passed, unless_refused, checked_room}
-use Rattle.rules.specs.{Refused.answered, Refused.refused, Decide.prescribe_checked_of}
+use Rattle.rules.proofs.Kit.{refl}
+use Rattle.rules.specs.Decide.{prescribe_checked_of}
+use Rattle.rules.proofs.Faults.{exit_answer, passed_answer, checked_room}
 use Rattle.kernel.proofs.calls.prescribe_checked.Goals as goal
 
-pub returns-in-Refused : goal.returns-in-Refused
+pub returns-in_err-checked_outcome : goal.returns-in_err-checked_outcome
 unfolding prescribe_checked_of
-returns-in-Refused c =
-    sym (unless_refused _ refused _ c.in-Refused.is c.checked_outcome-outcome.ensures)
+returns-in_err-checked_outcome c = exit_answer _ _ _ _ _ c.from_residual.ensures.1 c.in_err-checked_outcome.ensures
 
 pub decide-requires : goal.decide-requires
-decide-requires c = checked_room _ _ c.in_default.is c.checked_outcome-outcome.ensures
+decide-requires c = checked_room _ _ refl c.in_ok-checked_outcome.ensures
 
 pub returns : goal.returns
 unfolding prescribe_checked_of
-returns c =
-    ap answered c.decide.ensures ∙ sym (unless-passed _ refused _ c.in_default.is c.checked_outcome-outcome.ensures)
+returns c = passed_answer _ _ _ c.in_ok-checked_outcome.ensures c.decide.ensures

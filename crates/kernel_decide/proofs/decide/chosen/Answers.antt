@@ -11,4 +11,4 @@ returns c =
     let next = c.utility_of_score-2 in
     let best = to_z-of_z {w = w64} {z = first.result} (record { sfits = first.type_inv }) ∙ first.ensures in
     let second = to_z-of_z {w = w64} {z = next.result} (record { sfits = next.type_inv }) ∙ next.ensures in
-    rw (c.action_of-action.ensures, c.reason_of-reason.ensures, best, second)
+    rw (c.action_of.ensures, c.reason_of.ensures, best, second)

@@ -4,14 +4,14 @@ use Rattle.live_compact.proofs.{Gaps.cleared, Gaps.live_fits}
 use Rattle.live_compact.proofs.closing.close.Goals as goal
 
 -- the live records fit
-pub overflow_mul-at : goal.overflow_mul-at
-overflow_mul-at c = omega (arith, live_fits c.args.bank.now _ c.closed-live.ensures.live)
+pub overflow_mul-live : goal.overflow_mul-live
+overflow_mul-live c = omega (arith, live_fits c.args.bank.now _ c.closed-live.ensures.live)
 
-pub slice_bounds-clear-count : goal.slice_bounds-clear-count
-slice_bounds-clear-count c = omega (arith, live_fits c.args.bank.now _ c.closed-live.ensures.live)
+pub slice_bounds-fill-count : goal.slice_bounds-fill-count
+slice_bounds-fill-count c = omega (arith, live_fits c.args.bank.now _ c.closed-live.ensures.live)
 
-pub slice_bounds-clear-start : goal.slice_bounds-clear-start
-slice_bounds-clear-start c = omega (arith, live_fits c.args.bank.now _ c.closed-live.ensures.live)
+pub slice_bounds-fill-start : goal.slice_bounds-fill-start
+slice_bounds-fill-start c = omega (arith, live_fits c.args.bank.now _ c.closed-live.ensures.live)
 
 pub returns : goal.returns
-returns c = cleared _ _ _ _ c.requires c.closed-live.ensures.live c.closed-live.ensures.exit c.clear.ensures
+returns c = cleared _ _ _ _ c.requires c.closed-live.ensures.live c.closed-live.ensures.exit (c.fill.ensures.after (λ y e. e))

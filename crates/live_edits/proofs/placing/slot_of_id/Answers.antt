@@ -1,21 +1,17 @@
 -- `live_edits::slot_of_id` meets its contract. Assumes nothing.
-use Rattle.rules.specs.Slots.{slot_with}
-use Rattle.rules.proofs.{Faults.none_told, Faults.joined_told, Slots.live-few}
-use Rattle.live_edits.proofs.{Chosen.edit-refused, Chosen.edit-left, Chosen.slot_told}
+use Rattle.rules.proofs.Kit.{refl}
+use Rattle.rules.specs.{Slots.slot_with, Edits.slot_to_remove}
+use Rattle.rules.proofs.{Faults.exit_answer, Faults.passed, Faults.passed_call, Slots.live-few}
+use Rattle.live_edits.proofs.{Chosen.slot_told, Chosen.edit-live}
 use Rattle.live_edits.proofs.placing.slot_of_id.Goals as goal
 
-pub returns-in-Refused : goal.returns-in-Refused
-returns-in-Refused c = edit-refused _ _ _ c.in-Refused.is c.read_slots-slots.ensures.outcome
+pub returns-in_err-edit_outcome : goal.returns-in_err-edit_outcome
+unfolding slot_to_remove
+returns-in_err-edit_outcome c = exit_answer _ _ _ _ _ c.from_residual.ensures.1 c.in_err-edit_outcome.ensures
 
 pub first_live-requires : goal.first_live-requires
-first_live-requires c = live-few _ (none_told _ c.in_default.is c.read_slots-slots.ensures.outcome)
+first_live-requires c = live-few _ (edit-live _ _ _ (passed _ c.in_ok-edit_outcome.ensures))
 
 pub returns : goal.returns
-unfolding slot_with
-returns c =
-    let l = c.before in
-    let f = l.before in
-    let s = f.before in
-    let o = s.before in
-    let told = joined_told _ _ f.first_refused-outcome.ensures o.offered_outcome.ensures s.spent_outcome.ensures in
-    edit-left _ _ _ (none_told _ c.in_default.is c.read_slots-slots.ensures.outcome) (slot_told _ _ 5 c.slot_unless.ensures told l.first_live.ensures)
+unfolding slot_to_remove slot_with
+returns c = passed_call _ _ _ c.in_ok-edit_outcome.ensures (slot_told _ _ 5 c.ok_or.ensures.value refl c.first_live.ensures)

@@ -1,18 +1,18 @@
 -- `live_kernel::find` meets its contract. Assumes nothing.
-use Rattle.rules.proofs.Kit.{sym, ◌∙◌}
-use Rattle.rules.proofs.{Faults.none_told, Faults.unless_none, Faults.unless_refused, Slots.live-few}
-use Rattle.rules.specs.{Refused.refused, Live.live_find_of}
+use Rattle.rules.proofs.Kit.{sym, ap, ◌∙◌}
+use Rattle.rules.proofs.{Faults.exit_answer, Faults.unless_none, Slots.live-few}
+use Rattle.rules.specs.{Refused.refused, Refused.answered, Live.live_find_of}
+use Rattle.live_slots.proofs.Told.{number_refused}
+use Rattle.kernel_among.proofs.Lives.{slots_clean}
 use Rattle.live_kernel.proofs.single.find.Goals as goal
 
-pub returns-in-Refused : goal.returns-in-Refused
+pub returns-in_err-read_slots : goal.returns-in_err-read_slots
 unfolding live_find_of
-returns-in-Refused c =
-    sym (unless_refused _ refused _ c.in-Refused.is c.read_slots-slots.ensures.outcome)
+returns-in_err-read_slots c = exit_answer _ _ _ _ _ c.from_residual.ensures.1 (number_refused _ _ _ c.in_err-read_slots.ensures)
 
 pub first_live-requires : goal.first_live-requires
-first_live-requires c = live-few _ (none_told _ c.in_default.is c.read_slots-slots.ensures.outcome)
+first_live-requires c = live-few _ (slots_clean _ _ c.in_ok-read_slots.ensures)
 
 pub returns : goal.returns
 unfolding live_find_of
-returns c =
-    c.first_live.ensures ∙ sym (unless_none _ refused _ (none_told _ c.in_default.is c.read_slots-slots.ensures.outcome))
+returns c = ap answered c.first_live.ensures ∙ sym (unless_none _ refused _ (slots_clean _ _ c.in_ok-read_slots.ensures))

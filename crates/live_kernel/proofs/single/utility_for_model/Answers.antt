@@ -1,26 +1,25 @@
 -- `live_kernel::utility_for_model` meets its contract. Assumes nothing.
 use Rattle.rules.proofs.Kit.{sym, ◌∙◌}
-use Rattle.rules.proofs.{Faults.none_told, Faults.unless_none, Faults.unless_refused, Slots.live-few}
+use Rattle.rules.proofs.{Faults.exit_answer, Faults.unless_none, Slots.live-few}
 use Rattle.rules.specs.{Refused.refused, Live.live_utility_for_model_of}
+use Rattle.live_slots.proofs.Told.{number_refused}
+use Rattle.kernel_among.proofs.Lives.{slots_clean}
 use Rattle.live_kernel.proofs.{Utilities.utility-none, Utilities.utility-live}
 use Rattle.live_kernel.proofs.single.utility_for_model.Goals as goal
 
-pub returns-in-Refused : goal.returns-in-Refused
+pub returns-in_err-read_slots : goal.returns-in_err-read_slots
 unfolding live_utility_for_model_of
-returns-in-Refused c =
-    sym (unless_refused _ refused _ c.in-Refused.is c.read_slots-slots.ensures.outcome)
+returns-in_err-read_slots c = exit_answer _ _ _ _ _ c.from_residual.ensures.1 (number_refused _ _ _ c.in_err-read_slots.ensures)
 
 pub returns-then-id-eq0 : goal.returns-then-id-eq0
 unfolding live_utility_for_model_of
 returns-then-id-eq0 c =
-    let clean = none_told _ c.in_default.is c.read_slots-slots.ensures.outcome in
-    sym (unless_none _ refused _ clean ∙ utility-none _ _ _ _ c.if-id-eq0.true)
+    sym (unless_none _ refused _ (slots_clean _ _ c.in_ok-read_slots.ensures) ∙ utility-none _ _ _ _ c.if-id-eq0.true)
 
 pub utility_in-requires : goal.utility_in-requires
-utility_in-requires c = live-few _ (none_told _ c.in_default.is c.read_slots-slots.ensures.outcome)
+utility_in-requires c = live-few _ (slots_clean _ _ c.in_ok-read_slots.ensures)
 
 pub returns : goal.returns
 unfolding live_utility_for_model_of
 returns c =
-    let clean = none_told _ c.in_default.is c.read_slots-slots.ensures.outcome in
-    c.utility_in.ensures ∙ utility-live _ _ _ _ c.if-id-eq0.false ∙ sym (unless_none _ refused _ clean)
+    c.utility_in.ensures ∙ utility-live _ _ _ _ c.if-id-eq0.false ∙ sym (unless_none _ refused _ (slots_clean _ _ c.in_ok-read_slots.ensures))

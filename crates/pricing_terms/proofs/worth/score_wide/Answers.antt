@@ -15,9 +15,9 @@ returns-then-left c =
           (sym c.difference-left.ensures.1 ∙ c.if-left.true),
     )
 
-pub returns : goal.returns
+pub returns-else-left : goal.returns-else-left
 unfolding score_of
-returns c =
+returns-else-left c =
     let u = val c.add-up.result in
     let l = val c.args.loss in
     let d = c.difference-left in

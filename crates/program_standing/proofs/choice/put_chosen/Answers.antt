@@ -13,5 +13,5 @@ returns-clause-out_after c =
     let r = c.put_sentence.ensures in
     let a = c.args.decision in
     let f : SFits w64 a.expected_utility_microunits = record { sfits = search rules } in
-    promised_as (written_then (written_then (written _ _ _ p.out_after) (written _ _ _ q.out_after)) (written _ _ _ r.out_after))
+    promised_as (written_then (written_then (written _ _ _ (rw c.from.ensures at p.out_after)) (written _ _ _ q.out_after)) (written _ _ _ r.out_after))
     (chosen_joins (told_decision a) (to_z-of_z w64 _ f))

@@ -8,4 +8,4 @@ unfolding sentence text
 returns-clause-out_after c =
     let p = c.put_comparing-end.ensures in
     let q = written _ _ _ c.put_byte.ensures.out_after in
-    promised (written_then (written _ _ _ p.out_after) q)
+    promised (written_then (written _ _ _ (rw (c.from.ensures, c.from-2.ensures) at p.out_after)) q)

@@ -10,4 +10,4 @@ returns-clause-out_after c =
     let p = c.put_comparing-next.ensures in
     let q = c.put_about.ensures in
     let a = c.args in
-    promised_as (written_then (written _ _ _ p.out_after) (written _ _ _ q.out_after)) (budget_joins a.cost a.budget c.excess.ensures)
+    promised_as (written_then (written _ _ _ p.out_after) (written _ _ _ q.out_after)) (budget_joins a.cost a.budget c.saturating_sub.ensures)

@@ -8,4 +8,4 @@ unfolding outranked_words text
 returns-clause-out_after c =
     let p = c.put_about-next.ensures in
     let q = c.put_key.ensures in
-    promised (written_then (written _ _ _ p.out_after) (written _ _ _ q.out_after))
+    promised (written_then (written _ _ _ (rw c.from.ensures at p.out_after)) (written _ _ _ q.out_after))

@@ -10,4 +10,4 @@ returns-clause-out_after c =
     let p = c.put_about-next.ensures in
     let q = c.put_reason-end.ensures in
     let r = written _ _ _ c.put_byte.ensures.out_after in
-    promised_as (written_then (written_then (written _ _ _ p.out_after) (written _ _ _ q.out_after)) r) (model_joins _ _)
+    promised_as (written_then (written_then (written _ _ _ (rw c.from.ensures at p.out_after)) (written _ _ _ q.out_after)) r) (model_joins _ _)

@@ -15,4 +15,4 @@ pub returns : goal.returns
 unfolding write_request_of write_request_buffer request_form
 returns c =
     fills _ (room_enough _ _ (omega (arith, length_request c.args.input)))
-    (written_as (written _ _ _ c.put_field-end.ensures) (ap (field_bytes 3) c.input_bytes-body.ensures))
+    (written_as (written _ _ _ c.put_field.ensures) (ap (field_bytes 3) c.input_bytes.ensures))

@@ -1,0 +1,2 @@
+-- A bank as a batch has read it.
+pub mod Read
