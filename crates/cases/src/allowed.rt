@@ -4,11 +4,10 @@ ghost use Rattle.std.specs.Prelude.{◌+◌, ◌≤◌, length};
 
 use crate::answers::{CALLS, UNIT};
 use crate::banks::{SPACE as LONG_SPACE, put_long, put_part};
-use crate::damage::NO_CASE;
 use crate::example::{AFTER_BANK, BANK, END};
 use crate::free::{ALL_FREE, ALLOWANCE, FIELD, field_place, put_allowance, put_free, rounding_of};
 use crate::once::put_rounding;
-use crate::owing::{Owed, READERS, STORED, answered, refused, seen};
+use crate::owing::{Owed, READERS, STORED, answered, refused, seen, unasked};
 use crate::refused::refuses;
 use crate::tally::{Seen, judged};
 use endian::u32_at;
@@ -66,7 +65,7 @@ fn cut(reader: usize, rounding: Rounding, end: usize) -> Owed
 {
     let whole = whole_for(reader, rounding);
     if whole < end {
-        return refused(end, NO_CASE);
+        return unasked(end);
     }
     if end == whole {
         return answered(end, rounding, ALLOWANCE);
@@ -100,8 +99,8 @@ fn body_answer(out: &[u8], reader: usize, rounding: Rounding) -> Owed
     if allowance == 0 {
         return refused(whole, 25);
     }
-    if reader == UNIT as usize || (reader != STORED && allowance < ALL_FREE) {
-        return refused(whole, NO_CASE);
+    if reader == usize::from(UNIT) || (reader != STORED && allowance < ALL_FREE) {
+        return unasked(whole);
     }
     answered(whole, rounding, allowance)
 }
@@ -170,18 +169,21 @@ fn put_body(out: &mut [u8], rounding: Rounding, which: usize)
 }
 
 // 8 and 9 where there is a tag 4 alone, 10 and 11 of the programs alone: the stored form isn't read so far.
-fn late_answer(reader: usize, rounding: Rounding, which: usize) -> u8 {
+fn late_answer(reader: usize, rounding: Rounding, which: usize) -> Owed
+    ensures { result.end ≤ 600 }
+{
+    let whole = whole_for(reader, rounding);
     if which <= 9 {
         return match rounding {
-            Rounding::Apart => NO_CASE,
-            Rounding::Once if which == 8 => 23,
-            Rounding::Once => 22,
+            Rounding::Apart => unasked(whole),
+            Rounding::Once if which == 8 => refused(whole, 23),
+            Rounding::Once => refused(whole, 22),
         };
     }
     if reader == STORED {
-        return NO_CASE;
+        return unasked(whole);
     }
-    if which == 10 { 10 } else { 3 }
+    refused(whole, if which == 10 { 10 } else { 3 })
 }
 
 // 0 and 1: nothing after the field, and a byte too many after the end. 3: no body there. 4: a body that is cut.
@@ -197,7 +199,7 @@ fn other_answer(reader: usize, rounding: Rounding, which: usize) -> Owed
         4 => refused(place + 6, 20),
         2 | 5 | 6 => refused(whole, 22),
         7 => refused(whole, 25),
-        _ => refused(whole, late_answer(reader, rounding, which)),
+        _ => late_answer(reader, rounding, which),
     }
 }
 

@@ -1,5 +1,5 @@
 // The calls that are tried, each on the first bytes of a buffer alone. What a call answers is told as a number of bytes,
-// or as a refusal's number.
+// or as a refusal's number. A reader's answer is none where the policy or the request isn't the example's.
 ghost use Rattle.std.specs.Prelude.{◌≤◌, length};
 
 use crate::example::{AFTER_BANK, BANK, END, example};
@@ -8,18 +8,12 @@ use packing::{input_bytes, policy_number_bytes};
 use rules::Rounding;
 use stored::{read_request, read_stored, write_request, write_stored};
 
-// In place of a size, beyond all: a policy or a request that isn't the example's.
-const ANOTHER: usize = 2_000_000;
-
-// The size, if the bytes are those of a part of the example.
-fn if_example(bytes: &[u8], start: usize, end: usize, size: usize) -> usize
+// Whether the bytes are those of a part of the example.
+fn is_part(bytes: &[u8], start: usize, end: usize) -> bool
     requires { (start ≤ end) × (end ≤ 203) }
 {
     let input = example();
-    if check::same(bytes, &input[start..end]) {
-        return size;
-    }
-    ANOTHER
+    check::same(bytes, &input[start..end])
 }
 
 // Told as the bank's size, where the policy is the example's, rounds so, and has this allowance.
@@ -29,21 +23,25 @@ pub(crate) fn read_into(
     allowance: u32,
     out: &mut [u8],
     room: usize,
-) -> Result<usize, u8>
+) -> Option<Result<usize, u8>>
     requires { room ≤ length out.old }
 {
-    let read = read_stored(form, &mut out[..room]);
-    let (policy, size) = read.map_err(|refusal| refusal.number())?;
+    let (policy, size) = match read_stored(form, &mut out[..room]) {
+        Ok(read) => read,
+        Err(refusal) => return Some(Err(refusal.number())),
+    };
     if policy.rounding != rounding || policy.latency_allowance_ms != allowance {
-        return Ok(ANOTHER);
+        return None;
     }
-    Ok(if_example(&policy_number_bytes(policy), 3, BANK, size))
+    is_part(&policy_number_bytes(policy), 3, BANK).then_some(Ok(size))
 }
 
 // Told as 0.
-pub(crate) fn request_read(form: &[u8]) -> Result<usize, u8> {
-    let request = read_request(form).map_err(|refusal| refusal.number())?;
-    Ok(if_example(&input_bytes(request), AFTER_BANK + 3, END, 0))
+pub(crate) fn request_read(form: &[u8]) -> Option<Result<usize, u8>> {
+    match read_request(form) {
+        Ok(request) => is_part(&input_bytes(request), AFTER_BANK + 3, END).then_some(Ok(0)),
+        Err(refusal) => Some(Err(refusal.number())),
+    }
 }
 
 // The example's policy, rounding so and with an allowance, with a bank.

@@ -5,16 +5,13 @@ ghost use Rattle.std.specs.Prelude.{◌+◌, ◌<◌, ◌≤◌, length};
 use crate::banks::put_part;
 use crate::example::{AFTER_BANK, BANK, END};
 
-// Where a reader's bytes end, and the number that it owes: 0 for the example's own answer.
+// Where a reader's bytes end, and the number that it owes: 0 for the example's own answer, none where there is nothing to ask.
 // By number: as in the documents' tables.
 #[derive(Clone, Copy)]
 pub(crate) struct Case {
     pub end: usize,
-    pub number: u8,
+    pub number: Option<u8>,
 }
-
-// In place of a number, where there is nothing to ask.
-pub(crate) const NO_CASE: u8 = 255;
 
 // A form that ends where a field is due has no byte there: 21. Anywhere else a header or a body is cut: 20.
 fn cut_answer(end: usize, whole: usize) -> u8 {
@@ -35,12 +32,12 @@ fn cut(start: usize, whole: usize, end: usize) -> Case
     if start <= end && end <= whole {
         return Case {
             end,
-            number: cut_answer(end, whole),
+            number: Some(cut_answer(end, whole)),
         };
     }
     Case {
         end: start,
-        number: NO_CASE,
+        number: None,
     }
 }
 
@@ -110,7 +107,7 @@ fn header(out: &mut [u8], start: usize, whole: usize, number: usize) -> Case
     if at < start || whole <= at {
         return Case {
             end: start,
-            number: NO_CASE,
+            number: None,
         };
     }
     let right = out[at];
@@ -118,12 +115,12 @@ fn header(out: &mut [u8], start: usize, whole: usize, number: usize) -> Case
     if value == right {
         return Case {
             end: whole,
-            number: 0,
+            number: Some(0),
         };
     }
     Case {
         end: whole,
-        number: header_answer(start, whole, which, value),
+        number: Some(header_answer(start, whole, which, value)),
     }
 }
 
@@ -162,12 +159,12 @@ fn tail(out: &mut [u8], whole: usize, number: usize) -> Case
         out[whole] = value;
         return Case {
             end: whole + 1,
-            number: tail_answer(whole, value),
+            number: Some(tail_answer(whole, value)),
         };
     }
     Case {
         end: whole + tail_size(number - 256),
-        number: 21,
+        number: Some(21),
     }
 }
 
@@ -224,15 +221,18 @@ fn order(out: &mut [u8], start: usize, whole: usize, code: usize) -> Case
 {
     let end = put_fields(out, start, code);
     if !is_code(code) {
-        return Case {
-            end,
-            number: NO_CASE,
-        };
+        return Case { end, number: None };
     }
     if code == right_code(start, whole) {
-        return Case { end, number: 0 };
+        return Case {
+            end,
+            number: Some(0),
+        };
     }
-    Case { end, number: 21 }
+    Case {
+        end,
+        number: Some(21),
+    }
 }
 
 // The kinds of damage are 1 to 4. How many numbers each has.

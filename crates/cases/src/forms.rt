@@ -66,18 +66,16 @@ fn case_of(group: u64, number: usize) -> Seen {
 }
 
 // A tally with all numbers of a group; its name counts on from the groups of what is printed.
-fn with_group(tally: Tally, group: u64) -> Tally {
+fn with_group(mut tally: Tally, group: u64) -> Tally {
     let name = PRINTED.wrapping_add(group);
-    let mut now = tally;
     for i in 0..size_of(group) {
-        now = noted(now, name, i as u64, case_of(group, i));
+        tally = noted(tally, name, i as u64, case_of(group, i));
     }
-    now
+    tally
 }
 
 // The forms' cases, counted on from a tally.
-pub(crate) fn every_form(before: Tally) -> Tally {
-    let mut tally = before;
+pub(crate) fn every_form(mut tally: Tally) -> Tally {
     for group in 1..=GROUPS {
         tally = with_group(tally, group);
     }

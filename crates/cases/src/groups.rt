@@ -2,7 +2,7 @@
 // that `case_of` hands it to.
 use crate::answers::CALLS;
 use crate::banks::{LENGTHS, SPACE};
-use crate::damage::{NO_CASE, damaged, numbers_of};
+use crate::damage::{damaged, numbers_of};
 use crate::example::{END, example};
 use crate::faults::FAULTS;
 use crate::limits::{LIMITS, limit};
@@ -22,10 +22,10 @@ fn damage(kind: u64, number: usize) -> Seen {
     let call = (number % CALLS) as u8;
     let mut input = [0u8; SPACE];
     let case = damaged(&mut input, 0, END, kind, number / CALLS);
-    if case.number == NO_CASE {
+    let Some(owed) = case.number else {
         return Seen::NoCase;
-    }
-    judged(prints(call, &input, case.end, 1, case.number, 0))
+    };
+    judged(prints(call, &input, case.end, 1, owed, 0))
 }
 
 // Group 9: the example printed into each room.
@@ -62,12 +62,11 @@ fn case_of(group: u64, number: usize) -> Seen {
 }
 
 // A tally with all numbers of a group.
-fn with_group(tally: Tally, group: u64) -> Tally {
-    let mut now = tally;
+fn with_group(mut tally: Tally, group: u64) -> Tally {
     for i in 0..size_of(group) {
-        now = noted(now, group, i as u64, case_of(group, i));
+        tally = noted(tally, group, i as u64, case_of(group, i));
     }
-    now
+    tally
 }
 
 // The tally of all that is printed.

@@ -2,11 +2,10 @@
 ghost use Rattle.std.specs.Prelude.{◌+◌, ◌≤◌, length};
 
 use crate::banks::put_part;
-use crate::damage::NO_CASE;
 use crate::example::{AFTER_BANK, BANK, END};
 use crate::free::{ALLOWANCE, put_allowance};
 use crate::once::put_rounding;
-use crate::owing::{Owed, STORED, answered, refused};
+use crate::owing::{Owed, STORED, answered, refused, unasked};
 use rules::Rounding;
 
 pub(crate) const ORDERS: usize = 7_776;
@@ -93,7 +92,7 @@ pub(crate) fn order(out: &mut [u8], reader: usize, code: usize) -> Owed
 {
     let end = put_fields(out, code);
     if !is_plain(code) || !has_more(code) {
-        return refused(end, NO_CASE);
+        return unasked(end);
     }
     if reader == STORED {
         return stored_order(end, code);

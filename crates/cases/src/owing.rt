@@ -3,7 +3,6 @@
 ghost use Rattle.std.specs.Prelude.{◌≡◌, ◌≤◌, length};
 
 use crate::answers::{CALLS, EACH_ROOM};
-use crate::damage::NO_CASE;
 use crate::free::is_free;
 use crate::once::is_once;
 use crate::reading::reads_stored;
@@ -18,13 +17,25 @@ pub(crate) const READERS: usize = 4;
 pub(crate) const STORED: usize = 3;
 
 // Where a reader's bytes end, the number that it owes, and where that is 0 how the policy rounds, and its allowance.
-// By number: as in the documents' tables, 0 stands for an answer.
+// By number: as in the documents' tables, 0 stands for an answer; none where there is nothing to ask.
 #[derive(Clone, Copy)]
 pub(crate) struct Owed {
     pub end: usize,
-    pub number: u8,
+    pub number: Option<u8>,
     pub rounding: Rounding,
     pub allowance: u32,
+}
+
+// Nothing to ask.
+pub(crate) fn unasked(end: usize) -> Owed
+    ensures { result.end ≡ end }
+{
+    Owed {
+        end,
+        number: None,
+        rounding: Rounding::Apart,
+        allowance: 0,
+    }
 }
 
 // A refusal.
@@ -33,7 +44,7 @@ pub(crate) fn refused(end: usize, number: u8) -> Owed
 {
     Owed {
         end,
-        number,
+        number: Some(number),
         rounding: Rounding::Apart,
         allowance: 0,
     }
@@ -45,16 +56,16 @@ pub(crate) fn answered(end: usize, rounding: Rounding, allowance: u32) -> Owed
 {
     Owed {
         end,
-        number: 0,
+        number: Some(0),
         rounding,
         allowance,
     }
 }
 
-// Whether a call prints what is owed for an input.
-fn is_printed(call: u8, input: &[u8], owed: Owed) -> bool {
-    if owed.number != 0 {
-        return refuses(call, input, 1, owed.number, 0);
+// Whether a call prints what is owed for an input: the refusal with this number, or where it is 0 the example's answer.
+fn is_printed(call: u8, input: &[u8], number: u8, owed: Owed) -> bool {
+    if number != 0 {
+        return refuses(call, input, 1, number, 0);
     }
     if owed.allowance != 0 {
         return is_free(call, input, owed.rounding);
@@ -70,11 +81,11 @@ pub(crate) fn seen(reader: usize, input: &[u8], owed: Owed) -> Seen
     requires { owed.end ≤ length input.now }
 {
     let end = owed.end;
-    if owed.number == NO_CASE {
+    let Some(number) = owed.number else {
         return Seen::NoCase;
-    }
+    };
     if reader < CALLS {
-        return judged(is_printed(reader as u8, &input[0..end], owed));
+        return judged(is_printed(reader as u8, &input[0..end], number, owed));
     }
-    judged(reads_stored(&input[0..end], owed.number, owed.rounding, owed.allowance))
+    judged(reads_stored(&input[0..end], number, owed.rounding, owed.allowance))
 }

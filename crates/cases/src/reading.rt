@@ -3,7 +3,7 @@ ghost use Rattle.std.specs.Prelude.{◌≤◌};
 
 use crate::banks::{SPACE, length_answer, length_of, put_long};
 use crate::calls::{read_into, request_read};
-use crate::damage::{NO_CASE, damaged};
+use crate::damage::damaged;
 use crate::example::{AFTER_BANK, END, MODELS, example};
 use crate::marks::{MARK, owed, settled};
 use crate::tally::{Seen, judged};
@@ -16,7 +16,9 @@ fn reads_in(form: &[u8], number: u8, rounding: Rounding, allowance: u32, room: u
 {
     let input = example();
     let mut buffer = [MARK; 120];
-    let told = read_into(form, rounding, allowance, &mut buffer, room);
+    let Some(told) = read_into(form, rounding, allowance, &mut buffer, room) else {
+        return false;
+    };
     settled(told, number, &buffer, &input[MODELS..AFTER_BANK], room)
 }
 
@@ -29,7 +31,7 @@ pub(crate) fn reads_stored(form: &[u8], number: u8, rounding: Rounding, allowanc
 
 // Reads a request form, which needs no room.
 fn reads_request(form: &[u8], number: u8) -> bool {
-    request_read(form) == owed(number, 0, 0)
+    request_read(form) == Some(owed(number, 0, 0))
 }
 
 // Groups 1 to 4, the kinds of damage: first to the stored form.
@@ -37,10 +39,10 @@ pub(crate) fn damaged_stored(kind: u64, number: usize) -> Seen {
     let mut input = [0u8; SPACE];
     let case = damaged(&mut input, 0, AFTER_BANK, kind, number);
     let end = case.end;
-    if case.number == NO_CASE {
+    let Some(owed) = case.number else {
         return Seen::NoCase;
-    }
-    judged(reads_stored(&input[0..end], case.number, Rounding::Apart, 0))
+    };
+    judged(reads_stored(&input[0..end], owed, Rounding::Apart, 0))
 }
 
 // Then to the request form.
@@ -48,10 +50,10 @@ pub(crate) fn damaged_request(kind: u64, number: usize) -> Seen {
     let mut input = [0u8; SPACE];
     let case = damaged(&mut input, AFTER_BANK, END, kind, number);
     let end = case.end;
-    if case.number == NO_CASE {
+    let Some(owed) = case.number else {
         return Seen::NoCase;
-    }
-    judged(reads_request(&input[AFTER_BANK..end], case.number))
+    };
+    judged(reads_request(&input[AFTER_BANK..end], owed))
 }
 
 // Group 5: lengths around the highest that a field may have, which is a whole stored form.
@@ -61,7 +63,9 @@ pub(crate) fn long(number: usize) -> Seen {
     let mut input = [0u8; SPACE];
     let mut buffer = [MARK; SPACE];
     put_long(&mut input, size);
-    let told = read_into(&input[0..end], Rounding::Apart, 0, &mut buffer, SPACE);
+    let Some(told) = read_into(&input[0..end], Rounding::Apart, 0, &mut buffer, SPACE) else {
+        return Seen::Differs;
+    };
     judged(settled(
         told,
         length_answer(size, 0),

@@ -1,11 +1,10 @@
 // What can be wrong with the field that says how a policy rounds, in the example that rounds once; and every order of fields.
 ghost use Rattle.std.specs.Prelude.{◌+◌, ◌≤◌, length};
 
-use crate::damage::NO_CASE;
 use crate::example::{AFTER_BANK, BANK};
 use crate::once::{AFTER_ROUNDING, ONCE_END, put_once};
 use crate::orders::{ORDERS, order};
-use crate::owing::{Owed, READERS, STORED, answered, refused, seen};
+use crate::owing::{Owed, READERS, STORED, answered, refused, seen, unasked};
 use crate::tally::Seen;
 use endian_writing::put16;
 use rules::Rounding;
@@ -40,7 +39,7 @@ fn cut(reader: usize, end: usize) -> Owed
 {
     let whole = whole_for(reader);
     if whole < end {
-        return refused(end, NO_CASE);
+        return unasked(end);
     }
     if end == whole {
         return answered(end, Rounding::Once, 0);
@@ -124,7 +123,7 @@ fn program_only(reader: usize, number: u8) -> Owed
     ensures { result.end ≤ 600 }
 {
     if reader == STORED {
-        return refused(AFTER_ROUNDING, NO_CASE);
+        return unasked(AFTER_ROUNDING);
     }
     refused(ONCE_END, number)
 }

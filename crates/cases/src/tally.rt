@@ -16,8 +16,7 @@ pub(crate) enum Seen {
 pub(crate) struct Tally {
     pub cases: u64,
     pub different: u64,
-    pub group: u64,
-    pub number: u64,
+    pub first: Option<(u64, u64)>,
 }
 
 // A case that was asked.
@@ -27,38 +26,27 @@ pub(crate) fn judged(same: bool) -> Seen {
 
 // One case more that differs.
 fn differing(mut tally: Tally, group: u64, number: u64) -> Tally {
-    if tally.different == 0 {
-        tally.group = group;
-        tally.number = number;
-    }
+    tally.first = tally.first.or(Some((group, number)));
     tally.different = tally.different.wrapping_add(1);
     tally
 }
 
 // A tally with one number more; a number that stands for no case is not counted.
-pub(crate) fn noted(tally: Tally, group: u64, number: u64, what: Seen) -> Tally {
-    let mut now = tally;
-    now.cases = now.cases.wrapping_add(1);
+pub(crate) fn noted(mut tally: Tally, group: u64, number: u64, what: Seen) -> Tally {
     match what {
-        Seen::NoCase => tally,
-        Seen::Differs => differing(now, group, number),
-        Seen::Same => now,
+        Seen::NoCase => return tally,
+        Seen::Differs => tally = differing(tally, group, number),
+        Seen::Same => {}
     }
-}
-
-// Where to look first.
-fn tell_first(rt: &impl Print, tally: Tally) -> io::Result<()> {
-    println!(rt;
-        "the first, by group and number: {} {}",
-        tally.group, tally.number
-    )
+    tally.cases = tally.cases.wrapping_add(1);
+    tally
 }
 
 // Prints what the cases come to.
 pub(crate) fn tell(rt: &impl Print, tally: Tally) -> io::Result<()> {
     println!(rt; "{} cases, {} differ", tally.cases, tally.different)?;
-    if tally.different != 0 {
-        tell_first(rt, tally)?;
+    if let Some((group, number)) = tally.first {
+        println!(rt; "the first, by group and number: {group} {number}")?;
     }
     Ok(())
 }
