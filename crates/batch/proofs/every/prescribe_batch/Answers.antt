@@ -1,6 +1,7 @@
 -- `batch::every::prescribe_batch` meets its contract: it reads every record and passes on. Assumes nothing.
-use Rattle.rules.proofs.Kit.{refl, length-map}
-use Rattle.rules.specs.Batch.{batch_of, batch_row}
+use Rattle.rules.proofs.Kit.{refl}
+use Rattle.rules.specs.Batch.{batch_faults_over, batch_of, batch_row}
+use Rattle.rules.specs.{Numbers.told_decision, Listing.every_record}
 use Rattle.rules.proofs.Faults.{append_refused}
 use Rattle.live_slots.proofs.Told.{number_refused}
 use Rattle.batch_checks.proofs.Readings.{every_read}
@@ -10,8 +11,8 @@ use Rattle.batch.proofs.every.prescribe_batch.Goals as goal
 pub returns-in_err-many : goal.returns-in_err-many
 unfolding batch_of batch_row
 returns-in_err-many c =
-    rw length-map
-    (refused_both _ _ _ _ _ c.from_residual.ensures.1 (append_refused _ _ refl (number_refused _ _ _ c.in_err-many.ensures)))
+    refused_both _ _ (batch_faults_over (every_record c.args.bank.now) c.args.inputs.now) told_decision _ _ c.from_residual.ensures.1
+    (append_refused _ _ refl (number_refused _ _ _ c.in_err-many.ensures))
 
 pub returns : goal.returns
 unfolding batch_of batch_row
