@@ -2,9 +2,11 @@
 // with that id win, and the passes; `ask ID words` says the same in plain English.
 #![tactic(auto)]
 
-ghost use Rattle.std.specs.Prelude.{◌≡◌, ◌≤◌, length, take};
+ghost use Rattle.std.specs.Prelude.{◌≡◌, ◌<◌, ◌≤◌, length, take, IfOk};
+ghost use Rattle.std.specs.Io.{ReadsAtMost};
+ghost use Rattle.std.specs.Io.KnownBytes.{Consumes, IsAtEnd};
 ghost use Rattle.program_streams.specs.Prefix.{IsPrefixLen};
-ghost use Rattle.program_deliver.specs.Sizes.{words_bytes};
+ghost use Rattle.program_deliver.specs.Sizes.{read_bytes, words_bytes};
 ghost use Rattle.ask.specs.Answer.{answer_text};
 
 use program_deliver::end_of;
@@ -13,6 +15,18 @@ use program_question::{DeskQuestion, question_of};
 use program_streams::{argument, argument_count, read_full};
 use std::env::Env;
 use std::io;
+use std::io::Read;
+
+// The input, as far as an answer depends on it. The prover refuses a buffer that holds less.
+fn read_input<R: Read>(reader: &mut R, buffer: &mut [u8]) -> io::Result<usize>
+    requires { read_bytes ≤ length buffer.old }
+    ensures read { ReadsAtMost result buffer.new }
+    ensures kept { length buffer.new ≡ length buffer.old }
+    ensures taken { IfOk result (λ n. Consumes (R.remaining reader.old) (R.remaining reader.new) (take n buffer.new)) }
+    ensures ended { IfOk result (λ n. n < length buffer.new → IsAtEnd (R.remaining reader.new)) }
+{
+    read_full(reader, buffer)
+}
 
 // What the program's arguments ask; none where that is unclear.
 fn asked<E: Env>(environment: &E) -> Option<DeskQuestion> {
@@ -42,8 +56,7 @@ fn main(rt: HostRuntime) -> io::Result<()> {
         );
     };
     let mut input = [0u8; INPUT_BYTES];
-    // The input, as far as an answer depends on it.
-    let n = read_full(&mut rt.stdin(), &mut input)?;
+    let n = read_input(&mut rt.stdin(), &mut input)?;
     let mut out = [0u8; WORDS_BYTES];
     let end = answer(question, &input[..n], &mut out);
     rt.write_all(&out[..end])

@@ -2,4 +2,5 @@
 pub mod Filling
 pub mod Testing
 pub mod Batches
+pub mod Alike
 pub mod Answers

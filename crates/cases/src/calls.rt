@@ -4,8 +4,10 @@ ghost use Rattle.std.specs.Prelude.{◌≤◌, length};
 
 use crate::example::{AFTER_BANK, BANK, END, example};
 use crate::parts::{policy, request};
-use packing::{input_bytes, policy_number_bytes};
+use endian::u32_at;
+use packing::{input_bytes, policy_bytes};
 use rules::Rounding;
+use rules::limits::{POLICY_BYTES, ROUNDED_POLICY_BYTES};
 use stored::{read_request, read_stored, write_request, write_stored};
 
 // Whether the bytes are those of a part of the example.
@@ -30,10 +32,11 @@ pub(crate) fn read_into(
         Ok(read) => read,
         Err(refusal) => return Some(Err(refusal.number())),
     };
-    if policy.rounding != rounding || policy.latency_allowance_ms != allowance {
+    let body = policy_bytes(policy);
+    if body[POLICY_BYTES] != rounding.number() || u32_at(&body, ROUNDED_POLICY_BYTES) != allowance {
         return None;
     }
-    is_part(&policy_number_bytes(policy), 3, BANK).then_some(Ok(size))
+    is_part(&body[0..POLICY_BYTES], 3, BANK).then_some(Ok(size))
 }
 
 // Told as 0.

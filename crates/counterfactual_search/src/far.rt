@@ -3,7 +3,7 @@ ghost use Rattle.std.specs.Prelude.{◌≡◌, ◌≤◌};
 ghost use Rattle.rules.specs.Halving.{Lowest, Highest, search_after_far_end};
 ghost use Rattle.counterfactual_search.specs.Search.{told_side, wins_on, Within};
 
-use crate::search::searched;
+use crate::search::{HIGHEST, LOWEST, searched};
 use crate::side::Side;
 use counterfactual_pass::held::Held;
 use rules::Bound;
@@ -29,7 +29,7 @@ pub fn lowest_above(held: &Held, lever: u8, low: u64, high: u64) -> Bound
     requires { (low ≤ high) × Within lever low high }
     ensures { result ≡ search_after_far_end Lowest (wins_on held.now lever) low high }
 {
-    searched_after(held, lever, Side::Lowest, low, high)
+    searched_after(held, lever, LOWEST, low, high)
 }
 
 // The highest value from low to high that wins, where the high end doesn't.
@@ -37,5 +37,5 @@ pub fn highest_below(held: &Held, lever: u8, low: u64, high: u64) -> Bound
     requires { (low ≤ high) × Within lever low high }
     ensures { result ≡ search_after_far_end Highest (wins_on held.now lever) low high }
 {
-    searched_after(held, lever, Side::Highest, low, high)
+    searched_after(held, lever, HIGHEST, low, high)
 }

@@ -4,4 +4,4 @@
 
 pub mod far;
 pub mod search;
-mod side;
+pub mod side;

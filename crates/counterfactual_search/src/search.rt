@@ -7,6 +7,11 @@ use crate::side::Side;
 use counterfactual_pass::held::Held;
 use rules::Bound;
 
+// Which value is looked for.
+pub const LOWEST: Side = Side::Lowest;
+
+pub const HIGHEST: Side = Side::Highest;
+
 // Where the halving ends, with its passes, the end tried first among them.
 fn halved(held: &Held, lever: u8, side: Side, low: u64, high: u64) -> Bound
     requires ordered { low ≤ high }
@@ -53,7 +58,7 @@ pub fn lowest_true(held: &Held, lever: u8, low: u64, high: u64) -> Bound
     requires { Within lever low high }
     ensures { result ≡ search_of Lowest (wins_on held.now lever) low high }
 {
-    searched(held, lever, Side::Lowest, low, high)
+    searched(held, lever, LOWEST, low, high)
 }
 
 // `highest_true`: the highest value from low to high that wins. The low end is tried first.
@@ -61,5 +66,5 @@ pub fn highest_true(held: &Held, lever: u8, low: u64, high: u64) -> Bound
     requires { Within lever low high }
     ensures { result ≡ search_of Highest (wins_on held.now lever) low high }
 {
-    searched(held, lever, Side::Highest, low, high)
+    searched(held, lever, HIGHEST, low, high)
 }

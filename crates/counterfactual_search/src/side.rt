@@ -4,7 +4,7 @@ ghost use Rattle.rules.specs.Halving.{first_tried, far_end, middle, kept_low, ke
 ghost use Rattle.counterfactual_search.specs.Search.{told_side};
 
 #[derive(Clone, Copy)]
-pub(crate) enum Side {
+pub enum Side {
     Lowest,
     Highest,
 }

@@ -4,6 +4,7 @@ ghost use Rattle.rules.specs.Numbers.{two_numbers, told_terms, told_verdict};
 ghost use Rattle.rules.specs.Explain.{explanation_record};
 ghost use Rattle.explain_entries.specs.Entry.{verdict_numbers, judged_entry};
 
+use endian_signs::signed_bits;
 use endian_writing::{put_wide, put16, put32, put64};
 use rules::limits::EXPLANATION_BYTES;
 use rules::{CandidateVerdict, KernelModel, UtilityTerms, Wide};
@@ -87,6 +88,6 @@ pub fn entry_bytes(place: u16, model: KernelModel, told: VerdictNumbers) -> Entr
     put_wide(&mut a, 24, told.second);
     put64(&mut a, 40, told.cost);
     put_wide(&mut a, 48, told.latency);
-    put64(&mut a, 64, told.utility.cast_unsigned());
+    put64(&mut a, 64, signed_bits(told.utility));
     a
 }

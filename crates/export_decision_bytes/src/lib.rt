@@ -5,6 +5,7 @@ ghost use Rattle.std.specs.Prelude.{◌≡◌};
 ghost use Rattle.rules.specs.Numbers.{told_decision};
 ghost use Rattle.export_decision_bytes.specs.Layout.{uncounted_bytes, decision_bytes};
 
+use endian_signs::signed_bits;
 use endian_writing::{put16, put32, put64};
 use rules::{DecisionTrace, KernelDecision};
 use splice::put_bytes;
@@ -32,13 +33,13 @@ pub fn uncounted_bytes(decision: KernelDecision) -> UncountedBytes
     put64(
         &mut a,
         25,
-        decision.expected_utility_microunits.cast_unsigned(),
+        signed_bits(decision.expected_utility_microunits),
     );
     put32(&mut a, 33, decision.counterfactual_model_id);
     put64(
         &mut a,
         37,
-        decision.counterfactual_utility_microunits.cast_unsigned(),
+        signed_bits(decision.counterfactual_utility_microunits),
     );
     put16(&mut a, 45, decision.evaluated_models);
     put16(&mut a, 47, decision.eligible_models);

@@ -10,6 +10,7 @@ ghost use Rattle.export_checks.specs.Checks.{lent, word_size, handed};
 ghost use Rattle.export_lookups.specs.Lookups.{utility_bytes, utility_call, place_size, place_bytes, find_call, next_or, next_call};
 
 use bank::unchecked::{input_of, policy_of};
+use endian_signs::signed_bits;
 use endian_writing::put16;
 use explain_walk::next_eligible;
 use export_checks::{call_outcome, hand_u64, lent_outcome, refusal_word};
@@ -32,7 +33,7 @@ pub fn utility_handed(found: Result<i64, Refusal>, out: &mut [u8]) -> u64
     ensures { (result, out.new) ≡ handed utility_bytes [] (told_utility found) out.old }
 {
     match found {
-        Ok(utility) => hand_u64(out, utility.cast_unsigned()),
+        Ok(utility) => hand_u64(out, signed_bits(utility)),
         Err(refusal) => refusal_word(refusal, 0),
     }
 }

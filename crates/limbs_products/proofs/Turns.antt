@@ -1,7 +1,7 @@
 -- A limb's division, bit by bit: what a turn keeps, in any base 2 * H and then at 2 ^ 64, and how two limbs make a
 -- quotient. Assumes nothing.
 use Rattle.rules.proofs.Kit.{◌≡◌, sym, ap, ◌∙◌, ℕ, ◌+◌, ◌*◌, ◌/◌, ◌%◌, ◌-◌, ◌^◌, ◌<◌, ◌≤◌, div-add-mod', pow-suc, add-one, arith}
-use lib.{Arith.digits_div}
+use lib.{Arith.digits_div, Pow.pow_mono}
 use Rattle.rules.specs.Wide.{limbs}
 
 -- one bit more doubles
@@ -42,7 +42,18 @@ pub record Turned (X d q r s i : ℕ) : Type 0 where
   pub room : q < 2 ^ i
   pub limb : s < 2 ^ 64
 
+pub unturned : (d r s : ℕ) → r < d → s < 2 ^ 64 → Turned (limbs r s) d 0 r s 0
+unturned d r s p l =
+    record { whole = ap (λ n. limbs n s) {x = 0 * d + r} {y = r} (omega arith) ∙ omega arith; below = p; room = omega arith; limb = l }
+
 module _ {X d q r s i : ℕ} (t : Turned X d q r s i) where
+  -- the remainder with the next bit is small, and the quotient has room for that bit's place
+  pub next_small : d < 2 ^ 32 → r * 2 + s / 2 ^ 63 < 2 ^ 64
+  next_small p = omega (arith, bit_le t.limb)
+
+  pub next-room : i < 64 → q < 2 ^ 63
+  next-room p = omega (arith, pow_mono {i = i} {j = 63} (omega arith))
+
   next : (M : ℕ) → M ≡ (q * d + r) * 2 + s / 2 ^ 63 → limbs M (s % 2 ^ 63 * 2) ≡ X * 2 ^ (i + 1)
   unfolding limbs
   next M = read (2 ^ 63) X i s (q * d + r) M t.whole

@@ -75,6 +75,10 @@ pub record Words (size at : ℕ) (left fs : List (ℕ × ℕ)) (d : List ℕ) : 
   pub tight : Tight at left size
   pub is : take at d ++ packed left ≡ packed fs
 
+-- NONE AT FIRST
+pub words_none : (d : List ℕ) (fs : List (ℕ × ℕ)) → Tight 0 fs (length d) → Words (length d) 0 fs fs d
+words_none d fs tight = record { long = refl; tight = tight; is = refl }
+
 module _ {size at : ℕ} {fs : List (ℕ × ℕ)} {d : List ℕ} where
   -- THE NEXT has room, and one is written more
   pub words-room : {f : ℕ × ℕ} {left : List (ℕ × ℕ)} → Words size at (f ∷ left) fs d → (f.0 ≤ 8) × (at + 8 ≤ length d)

@@ -8,6 +8,7 @@ ghost use Rattle.std.specs.Prelude.{◌≡◌, length};
 ghost use Rattle.rules.specs.Limits.{policy_bytes};
 ghost use Rattle.rules.specs.Records.{model_bytes, input_bytes, policy_number_bytes, policy_in_bytes};
 
+use endian_signs::signed_bits;
 use endian_writing::put32;
 use rules::limits::{
     LONGEST_POLICY_BYTES, LongestPolicyBytes, ModelBytes, POLICY_BYTES, PolicyNumberBytes,
@@ -46,7 +47,7 @@ pub fn input_bytes(q: KernelInput) -> RequestBytes
         (4, q.requested_model_id as u64),
         (4, q.input_tokens as u64),
         (4, q.output_tokens as u64),
-        (8, q.business_value_microunits.cast_unsigned()),
+        (8, signed_bits(q.business_value_microunits)),
         (8, q.budget_limit_microunits),
         (2, q.risk_bps as u64),
         (2, q.confidence_bps as u64),

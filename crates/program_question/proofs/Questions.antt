@@ -1,6 +1,6 @@
 -- What the arguments ask, digit by digit. Assumes nothing.
-use Rattle.rules.proofs.Kit.{ℕ, suc, ◌+◌, ◌*◌, ◌-◌, ◌≤◌, ◌<◌, ◌≡◌, refl, sym, ap, ◌∙◌, Bool, true, false, List, [], ◌∷◌, ◌⊎◌, inl, inr, none, arith}
-use Rattle.rules.proofs.Kit.{eqb, cond, ◌&&◌, length, get_or, drop, drop-cons, drop-length}
+use Rattle.rules.proofs.Kit.{ℕ, suc, ◌+◌, ◌*◌, ◌-◌, ◌≤◌, ◌<◌, ◌≡◌, refl, sym, ap, ◌∙◌, Bool, true, false, List, [], ◌∷◌, ◌⊎◌, inl, inr, none, arith, eq-eqb}
+use Rattle.rules.proofs.Kit.{eqb-true, eqb, cond, ◌&&◌, length, get_or, drop, drop-cons, drop-length}
 use Rattle.std.specs.Cmp.Lexicographic.{pointwise}
 use Rattle.rules.specs.{Choice.below, Choice.equal, Choice.pick, Text.text}
 use Rattle.rules.proofs.{Orders.lt_or_le, Choices.below-yes, Choices.below-no, Choices.equal-yes, Choices.equal-no}
@@ -34,6 +34,35 @@ over n (b ∷ bs) h = go (lt_or_le b 48) (lt_or_le 57 b) (over (n * 10 + (b - 48
     go (inl k) _ _ = ap id_or_unclear (no_digit n b bs (inl k))
     go (inr j) (inl k) _ = ap id_or_unclear (no_digit n b bs (inr k))
     go (inr j) (inr k) e = ap id_or_unclear (digit_next n b bs j k) ∙ e
+
+-- A TEXT IS ITSELF, and no other
+pub same_self : (s : List ℕ) → same_text s s ≡ true
+unfolding same_text
+same_self [] = refl
+same_self (b ∷ bs) = rw (eq-eqb b b refl) (same_self bs)
+
+pub differ : false ≡ true → ⊥
+differ e = let z : ◌≡◌ {A = ℕ} 0 1 = ap one e in omega arith
+  where
+    one : Bool → ℕ
+    one true = 1
+    one false = 0
+
+pub same_only : (s t : List ℕ) → same_text s t ≡ true → s ≡ t
+unfolding same_text
+same_only [] [] e = refl
+same_only [] (b ∷ bs) e = absurd (differ e)
+same_only (a ∷ rest) [] e = absurd (differ e)
+same_only (a ∷ rest) (b ∷ bs) e = go (eqb a b) refl (same_only rest bs) e
+  where
+    go :
+        (t : Bool) →
+        eqb a b ≡ t →
+        (same_text rest bs ≡ true → rest ≡ bs) →
+        pick t (λ _. same_text rest bs) (λ _. false) ≡ true →
+        (a ∷ rest) ≡ (b ∷ bs)
+    go true h same k = rw (eqb-true a b h, same k)
+    go false h same k = absurd (differ k)
 
 -- WHAT THE TEST OF TWO TEXTS TELLS is whether they are the same
 pub same_pointwise : (s t : List ℕ) → pointwise eqb s t ≡ same_text s t

@@ -51,16 +51,25 @@ last_field {field} a b c d e value =
 pub formed_as : {r s : Refusal} → r ≡ s → form_words (told_refusal s).number ≡ form_words (told_refusal r).number
 formed_as e = ap (λ (x : Refusal). form_words (told_refusal x).number) (sym e)
 
-pub no_form : (r : Refusal) → (r ≡ refusal.TooManyForProgram → ⊥) → (r ≡ refusal.CutShort → ⊥) → (r ≡ refusal.WrongTag → ⊥) → (r ≡ refusal.WrongLength → ⊥) → (r ≡ refusal.UnknownRounding → ⊥) → (r ≡ refusal.ZeroAllowance → ⊥)
+pub no_form_told : (r : Refusal) → (r ≡ refusal.TooManyForProgram → ⊥) → (r ≡ refusal.CutShort → ⊥) → (r ≡ refusal.WrongTag → ⊥) → (r ≡ refusal.WrongLength → ⊥) → (r ≡ refusal.UnknownRounding → ⊥) → (r ≡ refusal.ZeroAllowance → ⊥)
     → [] ≡ form_words (told_refusal r).number
 unfolding form_words equal
-no_form refusal.TooManyForProgram a b d e f g = absurd (a refl)
-no_form refusal.CutShort a b d e f g = absurd (b refl)
-no_form refusal.WrongTag a b d e f g = absurd (d refl)
-no_form refusal.WrongLength a b d e f g = absurd (e refl)
-no_form refusal.UnknownRounding a b d e f g = absurd (f refl)
-no_form refusal.ZeroAllowance a b d e f g = absurd (g refl)
-no_form _ a b d e f g = refl
+no_form_told refusal.TooManyForProgram a b d e f g = absurd (a refl)
+no_form_told refusal.CutShort a b d e f g = absurd (b refl)
+no_form_told refusal.WrongTag a b d e f g = absurd (d refl)
+no_form_told refusal.WrongLength a b d e f g = absurd (e refl)
+no_form_told refusal.UnknownRounding a b d e f g = absurd (f refl)
+no_form_told refusal.ZeroAllowance a b d e f g = absurd (g refl)
+no_form_told _ a b d e f g = refl
+
+-- THE SAME OF A NUMBER, whatever it is
+pub no_form : {number : ℕ} → (number ≡ 19 → ⊥) → (number ≡ 20 → ⊥) → (number ≡ 21 → ⊥) → (number ≡ 22 → ⊥) → (number ≡ 23 → ⊥) → (number ≡ 25 → ⊥)
+    → [] ≡ form_words number
+unfolding form_words
+no_form {number} a b c d e f =
+    sym
+    (equal-no number 19 _ _ a ∙ equal-no number 20 _ _ b ∙ equal-no number 21 _ _ c ∙ equal-no number 22 _ _ d ∙ equal-no number 23 _ _ e
+    ∙ equal-no number 25 _ _ f)
 
 -- A REFUSAL'S SENTENCE is that of the case it is
 pub told_as : {r s : Refusal} → r ≡ s → (asked : ℕ) → fault_words asked (told_refusal s) ≡ fault_words asked (told_refusal r)

@@ -25,6 +25,9 @@ const ROOM: usize = 1_024;
 
 const FILL: u8 = 165;
 
+// What is owed where there is no such call: no refusal's word is so high.
+const NO_CALL: u64 = u64::MAX;
+
 // How long the policy is, where the other parts that are read end, and how long the space and the buffer are.
 #[derive(Clone, Copy)]
 struct Parts {
@@ -57,7 +60,7 @@ fn owed(told: &[u8], word: Option<u64>, policy: &[u8], space: &[u8], buffer: &[u
 {
     let (changed, rest) = told[WORD..].split_at(policy.len());
     let (filled, rest) = rest.split_at(space.len());
-    Some(u64_at(told, 0)) == word
+    u64_at(told, 0) == word.unwrap_or(NO_CALL)
         && changed == policy
         && filled == space
         && &rest[..buffer.len()] == buffer

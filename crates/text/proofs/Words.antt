@@ -1,6 +1,11 @@
--- Words one after the other. Assumes nothing.
+-- Words one after the other; and texts, which are the byte strings of code. Assumes nothing.
 use Rattle.rules.proofs.Kit.{ℕ, ◌+◌, ◌<◌, ◌≡◌, refl, sym, ap, ◌∙◌, List, [], ◌∷◌, ◌++◌, map, append-nil, append_assoc, add-one, length, take, get_or, take-suc}
 use Rattle.rules.specs.Text.{text, decimal, spaced}
+
+-- A TEXT IS A BYTE STRING OF CODE: it computes to its bytes, so that `b"-"` is `text "-"`
+pub minus_text : 45 ∷ [] ≡ text "-"
+unfolding text
+minus_text = refl
 
 -- NO WORD IS NO TEXT, and a space before a word is one word
 pub spaced_none : [] ≡ spaced []

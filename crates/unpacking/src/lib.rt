@@ -7,6 +7,7 @@ ghost use Rattle.rules.specs.Limits.{record_bytes, request_bytes};
 ghost use Rattle.rules.specs.Records.{model_of, input_of};
 
 use endian::{u16_at, u32_at, u64_at};
+use endian_signs::signed;
 use rules::{KernelInput, KernelModel};
 
 mod whole;
@@ -44,7 +45,7 @@ pub fn input_of(s: &[u8]) -> KernelInput
         requested_model_id: u32_at(s, 8),
         input_tokens: u32_at(s, 12),
         output_tokens: u32_at(s, 16),
-        business_value_microunits: u64_at(s, 20).cast_signed(),
+        business_value_microunits: signed(u64_at(s, 20)),
         budget_limit_microunits: u64_at(s, 28),
         risk_bps: u16_at(s, 36),
         confidence_bps: u16_at(s, 38),

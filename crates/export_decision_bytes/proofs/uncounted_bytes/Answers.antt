@@ -11,8 +11,8 @@ pub returns : goal.returns
 unfolding uncounted_bytes
 returns c =
     let d = c.args.decision in
-    let expected : c.cast_unsigned.result ≡ of_z w64 d.expected_utility_microunits = search rules in
-    let other : c.cast_unsigned-2.result ≡ of_z w64 d.counterfactual_utility_microunits = search rules in
+    let expected : c.signed_bits.result ≡ of_z w64 d.expected_utility_microunits = search rules in
+    let other : c.signed_bits-2.result ≡ of_z w64 d.counterfactual_utility_microunits = search rules in
     let l0 = laid_none (replicate uncounted_size 0) in
     let l1 = laid_more l0 0 8 d.request_sequence c.put64.ensures refl (lit≤ tt) in
     let l2 = laid_more l1 8 1 (action_no d.action) (action_patch _ 8 d.action (omega arith) c.number.ensures) refl (lit≤ tt) in

@@ -4,5 +4,5 @@ use Rattle.packing.proofs.input_bytes.Goals as goal
 
 pub returns : goal.returns
 returns c =
-    let bits : c.cast_unsigned.result ≡ of_z w64 c.args.q.business_value_microunits = search rules in
+    let bits : c.signed_bits.result ≡ of_z w64 c.args.q.business_value_microunits = search rules in
     rw bits at c.put_packed.ensures

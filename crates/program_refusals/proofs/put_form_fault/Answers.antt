@@ -3,7 +3,7 @@ use Rattle.rules.proofs.Kit.{arith}
 use Rattle.rules.specs.{Choice.equal, Text.text}
 use Rattle.splice.proofs.Pieces.{written, written_none, promised_as}
 use Rattle.program_refusals.specs.Parts.{form_words}
-use Rattle.program_refusals.proofs.{Joins.formed_as, Joins.no_form}
+use Rattle.program_refusals.proofs.{Joins.formed_as, Joins.no_form_told}
 use Rattle.program_refusals.proofs.put_form_fault.Goals as goal
 
 pub returns-in-TooManyForProgram-clause-out_after : goal.returns-in-TooManyForProgram-clause-out_after
@@ -34,4 +34,4 @@ pub returns-in_default-clause-out_after : goal.returns-in_default-clause-out_aft
 returns-in_default-clause-out_after c =
     let d = c.in_default in
     promised_as (written_none _ _ (omega arith))
-    (no_form c.args.refusal d.not-TooManyForProgram d.not-CutShort d.not-WrongTag d.not-WrongLength d.not-UnknownRounding d.not-ZeroAllowance)
+    (no_form_told c.args.refusal d.not-TooManyForProgram d.not-CutShort d.not-WrongTag d.not-WrongLength d.not-UnknownRounding d.not-ZeroAllowance)

@@ -12,7 +12,7 @@ returns c =
     let a = c.args in
     let n = a.told in
     -- the utility goes in as its 64 bits
-    let utility : c.cast_unsigned.result ≡ of_z w64 n.utility = search rules in
+    let utility : c.signed_bits.result ≡ of_z w64 n.utility = search rules in
     let l0 = laid_none (replicate explanation_bytes 0) in
     let l1 = laid_more l0 0 4 a.model.model_id c.put32.ensures refl (lit≤ tt) in
     let l2 = laid_more l1 4 2 a.place c.put16.ensures refl (lit≤ tt) in
